@@ -1,0 +1,136 @@
+// The lattice D2Q9: nine directions, their weights and opposites, and the moments' basis.
+//
+//   6   2   5
+//     \ | /
+//   3 - 0 - 1
+//     / | \
+//   7   4   8
+ghost use mathlib.Core.Path.{_≡_};
+ghost use Prim.Native.Nat.{_<_};
+ghost use Rattle.lattice.specs.Lattice.{X, Y, ex, ey, W, OPP, basisFloats, normFloats};
+ghost use Rattle.lattice.specs.Lookup.{isRow, dirIndexOf, axisOf, mirror};
+
+// The directions' components along x and y.
+pub const E: [[i32; 2]; 9] = [
+    [0, 0],
+    [1, 0],
+    [0, 1],
+    [-1, 0],
+    [0, -1],
+    [1, 1],
+    [-1, 1],
+    [-1, -1],
+    [1, -1],
+];
+
+// The weights, each one division.
+pub const W: [f64; 9] = [
+    4.0 / 9.0,
+    1.0 / 9.0,
+    1.0 / 9.0,
+    1.0 / 9.0,
+    1.0 / 9.0,
+    1.0 / 36.0,
+    1.0 / 36.0,
+    1.0 / 36.0,
+    1.0 / 36.0,
+];
+
+// The opposite directions.
+pub const OPP: [usize; 9] = [0, 3, 4, 1, 2, 7, 8, 5, 6];
+
+// The moments' basis; its rows are orthogonal.
+pub const M: [[f64; 9]; 9] = [
+    [1.0, 1.0, 1.0, 1.0, 1.0, 1.0, 1.0, 1.0, 1.0],
+    [-4.0, -1.0, -1.0, -1.0, -1.0, 2.0, 2.0, 2.0, 2.0],
+    [4.0, -2.0, -2.0, -2.0, -2.0, 1.0, 1.0, 1.0, 1.0],
+    [0.0, 1.0, 0.0, -1.0, 0.0, 1.0, -1.0, -1.0, 1.0],
+    [0.0, -2.0, 0.0, 2.0, 0.0, 1.0, -1.0, -1.0, 1.0],
+    [0.0, 0.0, 1.0, 0.0, -1.0, 1.0, 1.0, -1.0, -1.0],
+    [0.0, 0.0, -2.0, 0.0, 2.0, 1.0, 1.0, -1.0, -1.0],
+    [0.0, 1.0, -1.0, 1.0, -1.0, 0.0, 0.0, 0.0, 0.0],
+    [0.0, 0.0, 0.0, 0.0, 0.0, 1.0, -1.0, 1.0, -1.0],
+];
+
+// Each row of M with itself.
+pub const M_NORM: [f64; 9] = [9.0, 36.0, 36.0, 6.0, 12.0, 6.0, 12.0, 4.0, 4.0];
+
+// The components of direction i, its weight and its opposite.
+pub fn e_x(i: usize) -> f64
+    requires { ⌜ i < 9 ⌝ }
+    ensures { λ r. ⌜ r ≡ ex i ⌝ }
+{
+    E[i][0] as f64
+}
+
+pub fn e_y(i: usize) -> f64
+    requires { ⌜ i < 9 ⌝ }
+    ensures { λ r. ⌜ r ≡ ey i ⌝ }
+{
+    E[i][1] as f64
+}
+
+pub fn weight(i: usize) -> f64
+    requires { ⌜ i < 9 ⌝ }
+    ensures { λ r. ⌜ r ≡ W i ⌝ }
+{
+    W[i]
+}
+
+pub fn opposite(i: usize) -> usize
+    requires { ⌜ i < 9 ⌝ }
+    ensures { λ r. ⌜ (r ≡ OPP i) × (r < 9) ⌝ }
+{
+    OPP[i]
+}
+
+// The basis and its norms, whole: a caller that loops over them copies them once.
+pub fn basis() -> [[f64; 9]; 9]
+    ensures { λ r. ⌜ r ≡ basisFloats ⌝ }
+{
+    M
+}
+
+pub fn norms() -> [f64; 9]
+    ensures { λ r. ⌜ r ≡ normFloats ⌝ }
+{
+    M_NORM
+}
+
+// What the lookup of a direction answers: number 0 and the direction, or number 11 and zero.
+pub struct Found {
+    pub number: u32,
+    pub direction: usize,
+}
+
+fn is_row(i: usize, ex: i32, ey: i32) -> bool
+    requires { ⌜ i < 9 ⌝ }
+    ensures { λ r. ⌜ r ≡ isRow i ex ey ⌝ }
+{
+    (E[i][0] == ex) & (E[i][1] == ey)
+}
+
+// The direction whose components are (ex, ey), for any two numbers.
+pub fn dir_index(ex: i32, ey: i32) -> Found
+    ensures { λ r. ⌜ r ≡ dirIndexOf ex ey ⌝ }
+{
+    let mut i = 0;
+    while i < 9 {
+        if is_row(i, ex, ey) {
+            return Found { number: 0, direction: i };
+        }
+        i += 1;
+    }
+    Found { number: 11, direction: 0 }
+}
+
+// The direction with the component along the axis (0 for x, 1 for y) negated.
+pub fn mirror_index(i: usize, axis: usize) -> usize
+    requires { ⌜ i < 9 ⌝ }
+    ensures { λ r. ⌜ (r ≡ mirror (axisOf axis) i) × (r < 9) ⌝ }
+{
+    let ex = E[i][0];
+    let ey = E[i][1];
+    let found = if axis == 0 { dir_index(-ex, ey) } else { dir_index(ex, -ey) };
+    found.direction
+}

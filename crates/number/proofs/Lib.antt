@@ -1,0 +1,4 @@
+pub mod Nan
+pub mod RoundTrips
+pub mod Exact
+pub mod Nine
