@@ -84,8 +84,8 @@ normFloats = map (ofInt binary64) norms
 abbrev pub M : ℕ → ℕ → Float
 M k i = at (getD basisFloats k []) i
 
-abbrev pub M_NORM : ℕ → Float
-M_NORM k = at normFloats k
+abbrev pub M-NORM : ℕ → Float
+M-NORM k = at normFloats k
 
 -- ---- the rows of M with each other, in whole numbers
 

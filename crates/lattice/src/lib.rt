@@ -117,11 +117,17 @@ pub fn dir_index(ex: i32, ey: i32) -> Found
     let mut i = 0;
     while i < 9 {
         if is_row(i, ex, ey) {
-            return Found { number: 0, direction: i };
+            return Found {
+                number: 0,
+                direction: i,
+            };
         }
         i += 1;
     }
-    Found { number: 11, direction: 0 }
+    Found {
+        number: 11,
+        direction: 0,
+    }
 }
 
 // The direction with the component along the axis (0 for x, 1 for y) negated.
@@ -131,6 +137,10 @@ pub fn mirror_index(i: usize, axis: usize) -> usize
 {
     let ex = E[i][0];
     let ey = E[i][1];
-    let found = if axis == 0 { dir_index(-ex, ey) } else { dir_index(ex, -ey) };
+    let found = if axis == 0 {
+        dir_index(-ex, ey)
+    } else {
+        dir_index(ex, -ey)
+    };
     found.direction
 }

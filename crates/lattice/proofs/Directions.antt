@@ -1,0 +1,98 @@
+-- The lookup of a direction: what it passes, what it finds, and that number 11 is given exactly when no row of E is the pair.
+-- Assumes nothing.
+use mathlib.Core.Path.{_≡_, refl, sym, ap, _∙_, subst}
+use mathlib.Core.Bool.{Bool, true, false, cond, _&&_}
+use Prim.Native.Nat.{ℕ, zero, suc, _+_, _-_, _≤_, _<_}
+use native.Mathlib.Numerals.{add-one}
+use native.Mathlib.Omega.{arith}
+use lib.Dec.{T, eqb, eqb-refl}
+use lib.IntN.{ℤ, pos, negsuc}
+use lib.Ieee.Bits.{is-true}
+use borrow.Author.Tests.{eqb-true, eqb-false}
+use Rattle.lattice.specs.declared.Found.{Found}
+use Rattle.lattice.specs.Lattice.{Axis, X, Y, E}
+use Rattle.lattice.specs.Lookup.{sameℤ, isRow, lookup, dirIndexOf}
+
+-- ---- the test of a row
+
+pub same-is : (a b : ℤ) → sameℤ a b ≡ true → a ≡ b
+same-is (pos m) (pos n) e = ap pos (eqb-true m n e)
+same-is (pos m) (negsuc n) e = absurd (subst T (sym e) tt)
+same-is (negsuc m) (pos n) e = absurd (subst T (sym e) tt)
+same-is (negsuc m) (negsuc n) e = ap negsuc (eqb-true m n e)
+
+pub same-self : (a : ℤ) → sameℤ a a ≡ true
+same-self (pos m) = is-true (eqb m m) (eqb-refl m)
+same-self (negsuc m) = is-true (eqb m m) (eqb-refl m)
+
+-- row i of E is (a, b)
+pub record Row (i : ℕ) (a b : ℤ) : Type 0 where
+  pub along-x : E i X ≡ a
+  pub along-y : E i Y ≡ b
+
+row-is : (i : ℕ) (a b : ℤ) → isRow i a b ≡ true → Row i a b
+unfolding isRow
+row-is i a b e = both (sameℤ (E i X) a) (sameℤ (E i Y) b) refl refl e
+  where
+    both : (p q : Bool) → sameℤ (E i X) a ≡ p → sameℤ (E i Y) b ≡ q → p && q ≡ true → Row i a b
+    both true true ep eq e = record { along-x = same-is (E i X) a ep; along-y = same-is (E i Y) b eq }
+    both true false ep eq e = absurd (subst T (sym e) tt)
+    both false q ep eq e = absurd (subst T (sym e) tt)
+
+is-row : (i : ℕ) (a b : ℤ) → Row i a b → isRow i a b ≡ true
+unfolding isRow
+is-row i a b r = rw (r .along-x, r .along-y, same-self a, same-self b)
+
+-- ---- the search
+
+-- a row that is not the pair is passed
+pub passed : (i : ℕ) (a b : ℤ) → i < 9 → isRow i a b ≡ false → lookup i (9 - i) a b ≡ lookup (i + 1) (9 - (i + 1)) a b
+unfolding lookup
+passed i a b h e = let n : 9 - i ≡ suc (9 - (i + 1)) = omega arith in rw (n, e, add-one i)
+
+-- a row that is the pair is found
+pub found-here : (i : ℕ) (a b : ℤ) → i < 9 → isRow i a b ≡ true → _≡_ {A = Found} (record { number = 0; direction = i }) (lookup i (9 - i) a b)
+unfolding lookup
+found-here i a b h e = let n : 9 - i ≡ suc (9 - (i + 1)) = omega arith in rw (n, e)
+
+-- no row is left
+pub none-left : (i : ℕ) (a b : ℤ) → 9 ≤ i → _≡_ {A = Found} (record { number = 11; direction = 0 }) (lookup i (9 - i) a b)
+unfolding lookup
+none-left i a b h = let n : 9 - i ≡ 0 = omega arith in rw n
+
+-- ---- number 11
+
+-- what the search of the n rows from i on says: the direction of a row that is the pair, or that none of them is
+pub record Told (i n : ℕ) (a b : ℤ) (r : Found) : Type 0 where
+  pub number : (r .number ≡ 0 → ⊥) → r .number ≡ 11
+  pub given : r .number ≡ 0 → (i ≤ r .direction) × (r .direction < i + n) × Row (r .direction) a b
+  pub missing : r .number ≡ 11 → (k : ℕ) → i ≤ k → k < i + n → Row k a b → ⊥
+
+-- the search of one row more
+more : (i n : ℕ) (a b : ℤ) (r : Found) → isRow i a b ≡ false → Told (suc i) n a b r → Told i (suc n) a b r
+more i n a b r e t = record {
+  number = t .number;
+  given = λ z. let g = t .given z in (omega arith, omega arith, g .2);
+  missing = λ z k l u w. by-place k l u w (eqb k i) refl z;
+}
+  where
+    by-place : (k : ℕ) → i ≤ k → k < i + suc n → Row k a b → (p : Bool) → eqb k i ≡ p → r .number ≡ 11 → ⊥
+    by-place k l u w true q z = absurd (subst T (sym (is-row i a b (subst (λ (j : ℕ). Row j a b) (eqb-true k i q) w)) ∙ e) tt)
+    by-place k l u w false q z = let d = eqb-false k i q in t .missing z k (omega arith) (omega arith) w
+
+told : (i n : ℕ) (a b : ℤ) → Told i n a b (lookup i n a b)
+unfolding lookup
+told i zero a b = record { number = λ _. refl; given = λ e. absurd (omega (arith, e)); missing = λ e k l u r. omega arith }
+told i (suc n) a b = by-test (isRow i a b) refl (told (suc i) n a b)
+  where
+    by-test : (p : Bool) → isRow i a b ≡ p → Told (suc i) n a b (lookup (suc i) n a b) → Told i (suc n) a b (cond p (record { number = 0; direction = i }) (lookup (suc i) n a b))
+    by-test true e t = record {
+      number = λ no. absurd (no refl);
+      given = λ _. (omega arith, omega arith, row-is i a b e);
+      missing = λ no. absurd (omega (arith, no));
+    }
+    by-test false e t = more i n a b _ e t
+
+-- number 11 if and only if no row of E is (a, b); and any other answer is number 0 with the row's direction
+pub exactly-when : (a b : ℤ) → Told 0 9 a b (dirIndexOf a b)
+exactly-when a b = told 0 9 a b
