@@ -1,0 +1,76 @@
+// A grid's cells in a lent buffer: entry i of cell c of n stands at c + i·n, where c = x + y·nx and n = nx·ny.
+ghost use mathlib.Core.Path.{_≡_};
+ghost use Prim.Native.Nat.{_+_, _*_, _≤_, _<_};
+ghost use lib.ListN.{length, getD, set};
+ghost use Rattle.number.specs.Number.{valueOf, patternOf};
+ghost use Rattle.number.specs.Nine.{at};
+ghost use Rattle.grid.specs.Grid.{cellOf, Holds};
+ghost use Rattle.grid.specs.Writes.{Wrote, Put};
+
+// The largest side and the most cells of a grid: `mostSide` and `mostCells`.
+pub const MOST_SIDE: usize = 4096;
+
+pub const MOST_CELLS: usize = 1_048_576;
+
+// Entry i of cell c.
+fn get_f(f: &[u64], n: usize, c: usize, i: usize) -> f64
+    requires { ⌜ Holds (now f) n c × (i < 9) ⌝ }
+    ensures { λ r. ⌜ r ≡ valueOf (getD (now (f .entry)) (c + i * n) 0) ⌝ }
+{
+    number::value(f[c + i * n])
+}
+
+// Makes x entry i of cell c.
+fn set_f(f: &mut [u64], n: usize, c: usize, i: usize, x: f64)
+    requires { ⌜ Holds (now f) n c × (i < 9) ⌝ }
+    ensures stored { λ _. ⌜ now (f .exit) ≡ set (now (f .entry)) (c + i * n) (patternOf x) ⌝ }
+    ensures holds { λ _. ⌜ Holds (now (f .exit)) n c ⌝ }
+{
+    f[c + i * n] = number::pattern(x);
+}
+
+// The nine populations of cell c. Straight-line with literal directions, so that each place is one addition.
+pub fn gather(f: &[u64], n: usize, c: usize) -> [f64; 9]
+    requires { ⌜ Holds (now f) n c ⌝ }
+    ensures { λ r. ⌜ r ≡ cellOf (now (f .entry)) n c ⌝ }
+{
+    [
+        get_f(f, n, c, 0),
+        get_f(f, n, c, 1),
+        get_f(f, n, c, 2),
+        get_f(f, n, c, 3),
+        get_f(f, n, c, 4),
+        get_f(f, n, c, 5),
+        get_f(f, n, c, 6),
+        get_f(f, n, c, 7),
+        get_f(f, n, c, 8),
+    ]
+}
+
+// Makes v the nine populations of cell c.
+pub fn put_back(f: &mut [u64], n: usize, c: usize, v: [f64; 9])
+    requires { ⌜ Holds (now f) n c ⌝ }
+    ensures { λ _. ⌜ Put (now (f .entry)) (now (f .exit)) n c (λ i. patternOf (at v i)) ⌝ }
+{
+    set_f(f, n, c, 0, v[0]);
+    set_f(f, n, c, 1, v[1]);
+    set_f(f, n, c, 2, v[2]);
+    set_f(f, n, c, 3, v[3]);
+    set_f(f, n, c, 4, v[4]);
+    set_f(f, n, c, 5, v[5]);
+    set_f(f, n, c, 6, v[6]);
+    set_f(f, n, c, 7, v[7]);
+    set_f(f, n, c, 8, v[8]);
+}
+
+// Copies the n entries of src from `from` on to dst from `to` on, every bit of them.
+pub fn copy(src: &[u64], from: usize, dst: &mut [u64], to: usize, n: usize)
+    requires { ⌜ (from + n ≤ length (now src)) × (to + n ≤ length (now dst)) ⌝ }
+    ensures { λ _. ⌜ Wrote (now (dst .entry)) (now (dst .exit)) to n (λ k. getD (now (src .entry)) (from + k) 0) ⌝ }
+{
+    let mut k = 0;
+    while k < n {
+        dst[to + k] = src[from + k];
+        k += 1;
+    }
+}
