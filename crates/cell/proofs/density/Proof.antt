@@ -1,0 +1,27 @@
+-- `cell::density` meets its contract: the nine sums are `sumTo`'s.
+-- Assumes nothing.
+use mathlib.Core.Path.{refl}
+use borrow.Author.Needs.{needs}
+use Rattle.number.specs.Nine.{sumTo}
+use Rattle.cell.specs.Cell.{densityOf}
+use Rattle.cell.proofs.density.Statement.{statement}
+use Rattle.cell.proofs.density.Tie as tie
+
+returns : tie.Need-returns
+unfolding densityOf sumTo
+returns c = refl
+
+pub density-spec : {M : Type 1} → statement M
+density-spec =
+    tie.close
+    (tie.spec
+    (λ c. search needs)
+    (λ c. search needs)
+    (λ c. search needs)
+    (λ c. search needs)
+    (λ c. search needs)
+    (λ c. search needs)
+    (λ c. search needs)
+    (λ c. search needs)
+    (λ c. search needs)
+    returns)

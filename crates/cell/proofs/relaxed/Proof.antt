@@ -1,0 +1,19 @@
+-- `cell::relaxed` meets its contract: the operations are the definition's, at what the three calls give.
+-- Assumes nothing.
+use borrow.Author.Needs.{needs}
+use Rattle.cell.specs.Cell.{relaxedBy}
+use Rattle.cell.proofs.relaxed.Statement.{statement}
+use Rattle.cell.proofs.relaxed.Tie as tie
+
+returns : tie.Need-returns
+unfolding relaxedBy
+returns c = rw (c .before .before .moment .ensures, c .before .moment2 .ensures, c .moment3 .ensures)
+
+pub relaxed-spec : {M : Type 1} → statement M
+relaxed-spec =
+    tie.close
+    (tie.spec
+    (λ c κs. search needs)
+    (λ c κs. search needs)
+    (λ c κs. search needs)
+    returns)

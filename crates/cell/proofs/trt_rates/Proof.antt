@@ -1,0 +1,16 @@
+-- `cell::trt_rates` meets its contract: the operations are the definition's.
+-- Assumes nothing.
+use mathlib.Core.Path.{refl}
+use Rattle.cell.specs.Cell.{trtRates}
+use Rattle.cell.proofs.trt_rates.Statement.{statement}
+use Rattle.cell.proofs.trt_rates.Tie as tie
+
+returns : tie.Need-returns
+unfolding trtRates
+returns c = refl
+
+pub trt-rates-spec : {M : Type 1} → statement M
+trt-rates-spec =
+    tie.close
+    (tie.spec
+    returns)

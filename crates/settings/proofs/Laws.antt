@@ -1,0 +1,130 @@
+-- What the tests tell where they do not hold, and so what is known of a call that is not refused.
+-- Assumes nothing.
+use mathlib.Core.Path.{_≡_, refl}
+use mathlib.Core.Bool.{Bool, true, false, cond, _||_}
+use mathlib.Core.List.{List, [], _∷_}
+use Prim.Native.Nat.{ℕ, zero, suc, _*_, _≤_, _<_}
+use native.Mathlib.Omega.{arith}
+use lib.Dec.{T, leb, ltb}
+use lib.Ieee.{isNan}
+use borrow.Author.Tests.{ltb-false, leb-false, eqb-true, not-false}
+use Rattle.grid.specs.Grid.{Grid, mostSide, mostCells}
+use Rattle.settings.specs.declared.Settings.{Settings}
+use Rattle.settings.specs.Tests.{sideBad, sidesBad, lengthBad, ratesBad, forceBad, facesBad, stepsBad, mostSteps, placeBad, directionBad, driven, lossy}
+use Rattle.settings.specs.Refusals.{Test, row, first, Call, tests, refusal, sides, lengths, rates, force, faces, kinds, losses, tolerance, steps, place, direction}
+
+-- ---- what a test tells
+
+pub record Sized (s : Settings) (per len : ℕ) : Type 0 where
+  pub size : len ≡ per * (s .nx * s .ny)
+
+pub record Inside (s : Settings) (x y : ℕ) : Type 0 where
+  pub column : x < s .nx
+  pub row : y < s .ny
+
+pub or-left : (a b : Bool) → a || b ≡ false → a ≡ false
+or-left false b e = refl
+or-left true b e = e
+
+pub or-right : (a b : Bool) → a || b ≡ false → b ≡ false
+or-right false b e = e
+or-right true false e = refl
+or-right true true e = e
+
+side-some : (n : ℕ) → sideBad n ≡ false → 1 ≤ n
+side-some n e = ltb-false n 1 (or-left (ltb n 1) (ltb mostSide n) e)
+
+pub side-most : (n : ℕ) → sideBad n ≡ false → n ≤ mostSide
+side-most n e = ltb-false mostSide n (or-right (ltb n 1) (ltb mostSide n) e)
+
+pub sides-ok : (nx ny : ℕ) → sidesBad nx ny ≡ false → Grid nx ny
+unfolding sidesBad
+sides-ok nx ny e =
+    let both = or-left (sideBad nx || sideBad ny) (ltb mostCells (nx * ny)) e in
+    let x = or-left (sideBad nx) (sideBad ny) both in
+    let y = or-right (sideBad nx) (sideBad ny) both in
+    record {
+      x-some = side-some nx x;
+      x-most = side-most nx x;
+      y-some = side-some ny y;
+      y-most = side-most ny y;
+      few = ltb-false mostCells (nx * ny) (or-right (sideBad nx || sideBad ny) (ltb mostCells (nx * ny)) e);
+    }
+
+pub length-ok : (nx ny per len : ℕ) → lengthBad nx ny per len ≡ false → len ≡ per * (nx * ny)
+unfolding lengthBad
+length-ok nx ny per len e = eqb-true len (per * (nx * ny)) (not-false _ e)
+
+pub steps-ok : (n : ℕ) → stepsBad n ≡ false → n ≤ mostSteps
+steps-ok n e = ltb-false mostSteps n e
+
+pub place-ok : (s : Settings) (x y : ℕ) → placeBad (s .nx) (s .ny) x y ≡ false → Inside s x y
+place-ok s x y e = record {
+  column = leb-false (s .nx) x (or-left (leb (s .nx) x) (leb (s .ny) y) e);
+  row = leb-false (s .ny) y (or-right (leb (s .nx) x) (leb (s .ny) y) e);
+}
+
+pub direction-ok : (i : ℕ) → directionBad i ≡ false → i < 9
+direction-ok i e = leb-false 9 i e
+
+-- ---- the tests of a call
+
+abbrev pub Told : Test → Type 0
+Told (sides s) = Grid (s .nx) (s .ny)
+Told (lengths s per len) = Sized s per len
+Told (rates s) = ratesBad s ≡ false
+Told (force s) = forceBad s ≡ false
+Told (faces s) = facesBad s ≡ false
+Told (place s x y) = Inside s x y
+Told (direction i) = i < 9
+Told (kinds s) = driven s ≡ false
+Told (losses s) = lossy s ≡ false
+Told (tolerance t) = isNan t ≡ false
+Told (steps n) = n ≤ mostSteps
+
+told : (t : Test) → row t .bad ≡ false → Told t
+told (sides s) e = sides-ok (s .nx) (s .ny) e
+told (lengths s per len) e = record { size = length-ok (s .nx) (s .ny) per len e }
+told (rates s) e = e
+told (force s) e = e
+told (faces s) e = e
+told (place s x y) e = place-ok s x y e
+told (direction i) e = direction-ok i e
+told (kinds s) e = e
+told (losses s) e = e
+told (tolerance t) e = e
+told (steps n) e = steps-ok n e
+
+-- ---- what a call that is not refused tells
+
+-- the number is 0, so the test does not hold, and the later ones give 0
+none : (bad : Bool) (number later : ℕ) → T (ltb 0 number) → cond bad number later ≡ 0 → (bad ≡ false) × (later ≡ 0)
+none true zero later h e = absurd h
+none true (suc n) later h e = absurd (omega (arith, e))
+none false number later h e = (refl, e)
+
+positive : (t : Test) → T (ltb 0 (row t .number))
+positive (sides s) = tt
+positive (lengths s per len) = tt
+positive (rates s) = tt
+positive (force s) = tt
+positive (faces s) = tt
+positive (place s x y) = tt
+positive (direction i) = tt
+positive (kinds s) = tt
+positive (losses s) = tt
+positive (tolerance t) = tt
+positive (steps n) = tt
+
+-- each test of the list tells its own
+abbrev pub All : List Test → Type 0
+All [] = Unit {0}
+All (t ∷ rest) = Told t × All rest
+
+passed : (ts : List Test) → first ts 0 ≡ 0 → All ts
+passed [] e = tt
+passed (t ∷ rest) e =
+    let q = none (row t .bad) (row t .number) (first rest 0) (positive t) e in (told t (q .0), passed rest (q .1))
+
+pub known : (c : Call) → refusal c ≡ 0 → All (tests c)
+known c e = passed (tests c) e

@@ -1,0 +1,20 @@
+-- Every operation tests in the one order: its numbers stand as in `order`, whatever the call.
+-- Assumes nothing.
+use mathlib.Core.Path.{_≡_, refl}
+use mathlib.Core.Bool.{true}
+use Rattle.settings.specs.Refusals.{Call, tests, order, follows, initialize, density, velocity, velocityField, totalMass, kineticEnergy, plane, streamWithFaces, lossless, reverse, step, run, runToSteadyState}
+
+pub in-order : (c : Call) → follows order (tests c) ≡ true
+in-order (initialize s table f) = refl
+in-order (density s f x y) = refl
+in-order (velocity s f x y) = refl
+in-order (velocityField s f u) = refl
+in-order (totalMass s f) = refl
+in-order (kineticEnergy s f) = refl
+in-order (plane s f i) = refl
+in-order (streamWithFaces s post f) = refl
+in-order (lossless s) = refl
+in-order (reverse s f post) = refl
+in-order (step s f post) = refl
+in-order (run s n f post) = refl
+in-order (runToSteadyState s t n f post u) = refl

@@ -1,0 +1,15 @@
+-- The two ways of an outcome, where the code found the number n and the rules give m.
+-- Assumes nothing.
+use mathlib.Core.Path.{_≡_}
+use Prim.Native.Nat.{ℕ}
+use borrow.Author.Tests.{eq-eqb, ne-eqb}
+use Rattle.settings.specs.Outcome.{answer}
+
+pub answered : {A : Type 0} {n m : ℕ} {v done : A} (left : A) → n ≡ m → n ≡ 0 → v ≡ done → v ≡ answer m done left
+unfolding answer
+answered {n = n} left e h q = rw (← e, eq-eqb n 0 h) q
+
+-- what a refusal leaves may hold the number
+pub refused : {A : Type 0} {n m : ℕ} (done : A) (left : ℕ → A) → n ≡ m → (n ≡ 0 → ⊥) → left n ≡ answer m done (left m)
+unfolding answer
+refused {n = n} done left e h = rw (← e, ne-eqb n 0 h)

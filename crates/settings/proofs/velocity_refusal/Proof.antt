@@ -1,0 +1,26 @@
+-- `settings::velocity_refusal` meets its contract: each test's number stands before the later ones, in the call's own order.
+-- Assumes nothing.
+use borrow.Author.Needs.{needs}
+use Rattle.settings.proofs.velocity_refusal.Statement.{statement}
+use Rattle.settings.proofs.velocity_refusal.Tie as tie
+
+place-requires : tie.Need-place-requires
+place-requires c κs = search needs
+
+force-requires : tie.Need-force-requires
+force-requires c κs = search needs
+
+populations-requires : tie.Need-populations-requires
+populations-requires c κs = search needs
+
+returns : tie.Need-returns
+returns c =
+    rw (
+      c .populations .ensures,
+      c .before .force .ensures,
+      c .before .before .place .ensures,
+    )
+
+pub velocity-refusal-spec : {M : Type 1} → statement M
+velocity-refusal-spec =
+    tie.close (tie.spec place-requires force-requires populations-requires returns)

@@ -1,0 +1,128 @@
+-- The tests that refuse a call, in the order in which they are made: each holds exactly where its number is to be given.
+-- Number 9 stands with the steady run, and 11 with the direction lookup.
+-- Assumes nothing.
+use mathlib.Core.Bool.{Bool, true, false, not, xor, _&&_, _||_}
+use Prim.Native.Nat.{ℕ, _*_}
+use lib.Dec.{eqb, leb, ltb}
+use lib.Ieee.{Float, isNan, neg, eq, lt}
+use Rattle.number.specs.Number.{_⊕_, _⊖_, _⊗_, c0, c½, c1, c2, c3, notFinite}
+use Rattle.cell.specs.declared.Collision.{Collision}
+use Rattle.cell.specs.declared.Collision.the-variants.{Bgk, Mrt, Trt}
+use Rattle.grid.specs.Grid.{mostSide, mostCells}
+use Rattle.settings.specs.declared.Face.{Face}
+use Rattle.settings.specs.declared.Face.the-variants.{Periodic, NoSlip, MovingWall, Symmetry, Velocity, Pressure}
+use Rattle.settings.specs.declared.Settings.{Settings}
+
+-- ---- 1: a side or the cell count is outside its range
+
+abbrev pub sideBad : ℕ → Bool
+sideBad n = ltb n 1 || ltb mostSide n
+
+unfoldable pub sidesBad : ℕ → ℕ → Bool
+sidesBad nx ny = sideBad nx || sideBad ny || ltb mostCells (nx * ny)
+
+-- ---- 2: a lent buffer has the wrong length, which is not `per` entries for each cell
+
+unfoldable pub lengthBad : ℕ → ℕ → ℕ → ℕ → Bool
+lengthBad nx ny per len = not (eqb len (per * (nx * ny)))
+
+-- ---- 3: τ = 3.0·ν + 0.5 is not finite or below 0.5; or a Trt minus rate is not finite, below 0 or above 2
+
+abbrev pub tauOf : Float → Float
+tauOf nu = c3 ⊗ nu ⊕ c½
+
+unfoldable pub tauBad : Float → Bool
+tauBad tau = notFinite tau || lt tau c½
+
+unfoldable pub rateBad : Collision → Bool
+rateBad Bgk = false
+rateBad Mrt = false
+rateBad (Trt rate) = notFinite rate || lt rate c0 || lt c2 rate
+
+unfoldable pub ratesBad : Settings → Bool
+ratesBad s = tauBad (tauOf (s .nu)) || rateBad (s .collision)
+
+-- ---- 4: a force component is not finite
+
+unfoldable pub forceBad : Settings → Bool
+forceBad s = notFinite (s .fx) || notFinite (s .fy)
+
+-- ---- 5: a face number is not finite; a Pressure density is not above 0; a Velocity face has 1 - un equal to 0
+
+-- the speed along the inward normal (n0, n1)
+abbrev pub unOf : Float → Float → Float → Float → Float
+unOf u0 u1 n0 n1 = u0 ⊗ n0 ⊕ u1 ⊗ n1
+
+unfoldable pub faceBad : Face → Float → Float → Bool
+faceBad Periodic n0 n1 = false
+faceBad NoSlip n0 n1 = false
+faceBad (MovingWall u0 u1) n0 n1 = notFinite u0 || notFinite u1
+faceBad Symmetry n0 n1 = false
+faceBad (Velocity u0 u1) n0 n1 = notFinite u0 || notFinite u1 || eq (c1 ⊖ unOf u0 u1 n0 n1) c0
+faceBad (Pressure density) n0 n1 = notFinite density || not (lt c0 density)
+
+-- the inward normals are (1, 0), (-1, 0), (0, 1) and (0, -1)
+unfoldable pub facesBad : Settings → Bool
+facesBad s =
+    faceBad (s .«x_min») c1 c0 || faceBad (s .«x_max») (neg c1) c0
+    || faceBad (s .«y_min») c0 c1 || faceBad (s .«y_max») c0 (neg c1)
+
+-- ---- 10: the tolerance is NaN, or there are more than 1,000,000 steps
+
+abbrev pub mostSteps : ℕ
+mostSteps = 1000000
+
+abbrev pub toleranceBad : Float → Bool
+toleranceBad tolerance = isNan tolerance
+
+abbrev pub stepsBad : ℕ → Bool
+stepsBad steps = ltb mostSteps steps
+
+-- ---- 6: x, y or direction outside
+
+abbrev pub placeBad : ℕ → ℕ → ℕ → ℕ → Bool
+placeBad nx ny x y = leb nx x || leb ny y
+
+abbrev pub directionBad : ℕ → Bool
+directionBad i = leb 9 i
+
+-- ---- 7: a face is MovingWall, Velocity or Pressure
+
+abbrev pub drives : Face → Bool
+drives Periodic = false
+drives NoSlip = false
+drives (MovingWall u0 u1) = true
+drives Symmetry = false
+drives (Velocity u0 u1) = true
+drives (Pressure density) = true
+
+unfoldable pub driven : Settings → Bool
+driven s = drives (s .«x_min») || drives (s .«x_max») || drives (s .«y_min») || drives (s .«y_max»)
+
+-- ---- 8: the faces are not lossless
+
+abbrev pub isPeriodic : Face → Bool
+isPeriodic Periodic = true
+isPeriodic NoSlip = false
+isPeriodic (MovingWall u0 u1) = false
+isPeriodic Symmetry = false
+isPeriodic (Velocity u0 u1) = false
+isPeriodic (Pressure density) = false
+
+abbrev pub isSymmetry : Face → Bool
+isSymmetry Periodic = false
+isSymmetry NoSlip = false
+isSymmetry (MovingWall u0 u1) = false
+isSymmetry Symmetry = true
+isSymmetry (Velocity u0 u1) = false
+isSymmetry (Pressure density) = false
+
+-- one face of an axis is periodic and the other is not
+unfoldable pub unpaired : Face → Face → Bool
+unpaired a b = xor (isPeriodic a) (isPeriodic b)
+
+-- an axis is unpaired; or an x face is Symmetry while y, which is paired, is not periodic and ny is at least 2
+unfoldable pub lossy : Settings → Bool
+lossy s =
+    unpaired (s .«x_min») (s .«x_max») || unpaired (s .«y_min») (s .«y_max»)
+    || (isSymmetry (s .«x_min») || isSymmetry (s .«x_max»)) && not (isPeriodic (s .«y_min»)) && leb 2 (s .ny)

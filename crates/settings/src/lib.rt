@@ -1,0 +1,361 @@
+// The settings of a study, the tests of what an operation is given, and the number that refuses it.
+use cell::Collision;
+ghost use mathlib.Core.Path.{_≡_};
+ghost use mathlib.Core.Bool.{cond};
+ghost use mathlib.Core.List.{[], _∷_};
+ghost use Prim.Native.Nat.{_≤_};
+ghost use Rattle.settings.specs.Tests as Tests;
+ghost use Rattle.settings.specs.Tests.{sideBad, sidesBad, lengthBad, tauOf, tauBad, rateBad, faceBad, isPeriodic, isSymmetry};
+ghost use Rattle.settings.specs.Refusals as Refusals;
+ghost use Rattle.settings.specs.Refusals.{first, refusal};
+
+// What stands at one end of an axis. A moving wall and a velocity face carry two speeds, a pressure face one density.
+pub enum Face {
+    Periodic,
+    NoSlip,
+    MovingWall(f64, f64),
+    Symmetry,
+    Velocity(f64, f64),
+    Pressure(f64),
+}
+
+pub struct Settings {
+    pub nx: usize,
+    pub ny: usize,
+    pub nu: f64,
+    pub fx: f64,
+    pub fy: f64,
+    pub collision: Collision,
+    pub x_min: Face,
+    pub x_max: Face,
+    pub y_min: Face,
+    pub y_max: Face,
+}
+
+pub const MOST_STEPS: u64 = 1_000_000;
+
+// ---- the tests
+
+fn side_bad(n: usize) -> bool
+    ensures { λ r. ⌜ r ≡ sideBad n ⌝ }
+{
+    (n < 1) | (grid::MOST_SIDE < n)
+}
+
+fn sides_bad(nx: usize, ny: usize) -> bool
+    ensures { λ r. ⌜ r ≡ sidesBad nx ny ⌝ }
+{
+    // the sides first, since the product of any two need not fit
+    if side_bad(nx) | side_bad(ny) {
+        return true;
+    }
+    grid::MOST_CELLS < nx * ny
+}
+
+// Whether `len` is not per·nx·ny. It divides, since the product of any two sides need not fit.
+fn length_bad(nx: usize, ny: usize, per: usize, len: usize) -> bool
+    requires { ⌜ 1 ≤ per ⌝ }
+    ensures { λ r. ⌜ r ≡ lengthBad nx ny per len ⌝ }
+{
+    if nx == 0 {
+        return len != 0;
+    }
+    let cells = len / per;
+    (len % per != 0) | (cells % nx != 0) | (cells / nx != ny)
+}
+
+pub fn tau(nu: f64) -> f64
+    ensures { λ r. ⌜ r ≡ tauOf nu ⌝ }
+{
+    3.0 * nu + 0.5
+}
+
+fn tau_bad(tau: f64) -> bool
+    ensures { λ r. ⌜ r ≡ tauBad tau ⌝ }
+{
+    number::not_finite(tau) | (tau < 0.5)
+}
+
+fn rate_bad(collision: Collision) -> bool
+    ensures { λ r. ⌜ r ≡ rateBad collision ⌝ }
+{
+    match collision {
+        Collision::Bgk => false,
+        Collision::Mrt => false,
+        Collision::Trt(rate) => number::not_finite(rate) | (rate < 0.0) | (2.0 < rate),
+    }
+}
+
+// Whether a face's own numbers are bad; (n0, n1) is its inward normal.
+fn face_bad(face: Face, n0: f64, n1: f64) -> bool
+    ensures { λ r. ⌜ r ≡ faceBad face n0 n1 ⌝ }
+{
+    match face {
+        Face::Periodic => false,
+        Face::NoSlip => false,
+        Face::MovingWall(u0, u1) => number::not_finite(u0) | number::not_finite(u1),
+        Face::Symmetry => false,
+        Face::Velocity(u0, u1) => {
+            number::not_finite(u0) | number::not_finite(u1) | (1.0 - (u0 * n0 + u1 * n1) == 0.0)
+        }
+        Face::Pressure(density) => number::not_finite(density) | !(0.0 < density),
+    }
+}
+
+fn drives(face: Face) -> bool
+    ensures { λ r. ⌜ r ≡ Tests.drives face ⌝ }
+{
+    match face {
+        Face::Periodic => false,
+        Face::NoSlip => false,
+        Face::MovingWall(_, _) => true,
+        Face::Symmetry => false,
+        Face::Velocity(_, _) => true,
+        Face::Pressure(_) => true,
+    }
+}
+
+pub fn is_periodic(face: Face) -> bool
+    ensures { λ r. ⌜ r ≡ isPeriodic face ⌝ }
+{
+    match face {
+        Face::Periodic => true,
+        Face::NoSlip => false,
+        Face::MovingWall(_, _) => false,
+        Face::Symmetry => false,
+        Face::Velocity(_, _) => false,
+        Face::Pressure(_) => false,
+    }
+}
+
+pub fn is_symmetry(face: Face) -> bool
+    ensures { λ r. ⌜ r ≡ isSymmetry face ⌝ }
+{
+    match face {
+        Face::Periodic => false,
+        Face::NoSlip => false,
+        Face::MovingWall(_, _) => false,
+        Face::Symmetry => true,
+        Face::Velocity(_, _) => false,
+        Face::Pressure(_) => false,
+    }
+}
+
+// Whether one face of an axis is periodic and the other is not.
+fn unpaired(low: Face, high: Face) -> bool
+    ensures { λ r. ⌜ r ≡ Tests.unpaired low high ⌝ }
+{
+    is_periodic(low) ^ is_periodic(high)
+}
+
+pub fn lossy(s: Settings) -> bool
+    ensures { λ r. ⌜ r ≡ Tests.lossy s ⌝ }
+{
+    let x_min = s.x_min;
+    let x_max = s.x_max;
+    let y_min = s.y_min;
+    let y_max = s.y_max;
+    // an x mirror beside a y face that is not periodic copies one corner entry twice
+    unpaired(x_min, x_max)
+        | unpaired(y_min, y_max)
+        | ((is_symmetry(x_min) | is_symmetry(x_max)) & !is_periodic(y_min) & (2 <= s.ny))
+}
+
+// ---- the tests with their numbers: each gives its own where its test holds, and else what the later tests gave
+
+fn number_if(bad: bool, number: u32, later: u32) -> u32
+    ensures { λ r. ⌜ r ≡ cond bad number later ⌝ }
+{
+    if bad { number } else { later }
+}
+
+fn sides(s: Settings, later: u32) -> u32
+    ensures { λ r. ⌜ r ≡ first (Refusals.sides s ∷ []) later ⌝ }
+{
+    number_if(sides_bad(s.nx, s.ny), 1, later)
+}
+
+fn lengths(s: Settings, per: usize, len: usize, later: u32) -> u32
+    requires { ⌜ 1 ≤ per ⌝ }
+    ensures { λ r. ⌜ r ≡ first (Refusals.lengths s per len ∷ []) later ⌝ }
+{
+    number_if(length_bad(s.nx, s.ny, per, len), 2, later)
+}
+
+fn rates(s: Settings, later: u32) -> u32
+    ensures { λ r. ⌜ r ≡ first (Refusals.rates s ∷ []) later ⌝ }
+{
+    let collision = s.collision;
+    number_if(tau_bad(tau(s.nu)) | rate_bad(collision), 3, later)
+}
+
+fn force(s: Settings, later: u32) -> u32
+    ensures { λ r. ⌜ r ≡ first (Refusals.force s ∷ []) later ⌝ }
+{
+    number_if(
+        number::not_finite(s.fx) | number::not_finite(s.fy),
+        4,
+        later,
+    )
+}
+
+fn faces(s: Settings, later: u32) -> u32
+    ensures { λ r. ⌜ r ≡ first (Refusals.faces s ∷ []) later ⌝ }
+{
+    let x_min = s.x_min;
+    let x_max = s.x_max;
+    let y_min = s.y_min;
+    let y_max = s.y_max;
+    let bad = face_bad(x_min, 1.0, 0.0)
+        | face_bad(x_max, -1.0, 0.0)
+        | face_bad(y_min, 0.0, 1.0)
+        | face_bad(y_max, 0.0, -1.0);
+    number_if(bad, 5, later)
+}
+
+fn tolerance(t: f64, later: u32) -> u32
+    ensures { λ r. ⌜ r ≡ first (Refusals.tolerance t ∷ []) later ⌝ }
+{
+    // only a NaN differs from itself
+    number_if(t != t, 10, later)
+}
+
+fn steps(n: u64, later: u32) -> u32
+    ensures { λ r. ⌜ r ≡ first (Refusals.steps n ∷ []) later ⌝ }
+{
+    number_if(MOST_STEPS < n, 10, later)
+}
+
+fn place(s: Settings, x: usize, y: usize, later: u32) -> u32
+    ensures { λ r. ⌜ r ≡ first (Refusals.place s x y ∷ []) later ⌝ }
+{
+    number_if((s.nx <= x) | (s.ny <= y), 6, later)
+}
+
+fn direction(i: usize, later: u32) -> u32
+    ensures { λ r. ⌜ r ≡ first (Refusals.direction i ∷ []) later ⌝ }
+{
+    number_if(9 <= i, 6, later)
+}
+
+fn kinds(s: Settings, later: u32) -> u32
+    ensures { λ r. ⌜ r ≡ first (Refusals.kinds s ∷ []) later ⌝ }
+{
+    let x_min = s.x_min;
+    let x_max = s.x_max;
+    let y_min = s.y_min;
+    let y_max = s.y_max;
+    let driven = drives(x_min) | drives(x_max) | drives(y_min) | drives(y_max);
+    number_if(driven, 7, later)
+}
+
+fn losses(s: Settings, later: u32) -> u32
+    ensures { λ r. ⌜ r ≡ first (Refusals.losses s ∷ []) later ⌝ }
+{
+    number_if(lossy(s), 8, later)
+}
+
+// ---- what each operation refuses, over the lengths of its lent buffers
+
+// What every operation on populations tests first.
+fn populations(s: Settings, f: usize, later: u32) -> u32
+    ensures { λ r. ⌜ r ≡ first (Refusals.sides s ∷ Refusals.lengths s 9 f ∷ []) later ⌝ }
+{
+    sides(s, lengths(s, 9, f, later))
+}
+
+// What every operation that steps tests of the settings.
+fn stepping(s: Settings, later: u32) -> u32
+    ensures { λ r. ⌜ r ≡ first (Refusals.rates s ∷ Refusals.force s ∷ Refusals.faces s ∷ []) later ⌝ }
+{
+    rates(s, force(s, faces(s, later)))
+}
+
+pub fn initialize_refusal(s: Settings, table: usize, f: usize) -> u32
+    ensures { λ r. ⌜ r ≡ refusal (Refusals.initialize s table f) ⌝ }
+{
+    populations(s, f, lengths(s, 3, table, 0))
+}
+
+pub fn density_refusal(s: Settings, f: usize, x: usize, y: usize) -> u32
+    ensures { λ r. ⌜ r ≡ refusal (Refusals.density s f x y) ⌝ }
+{
+    populations(s, f, place(s, x, y, 0))
+}
+
+pub fn velocity_refusal(s: Settings, f: usize, x: usize, y: usize) -> u32
+    ensures { λ r. ⌜ r ≡ refusal (Refusals.velocity s f x y) ⌝ }
+{
+    populations(s, f, force(s, place(s, x, y, 0)))
+}
+
+pub fn velocity_field_refusal(s: Settings, f: usize, u: usize) -> u32
+    ensures { λ r. ⌜ r ≡ refusal (Refusals.velocityField s f u) ⌝ }
+{
+    populations(s, f, lengths(s, 2, u, force(s, 0)))
+}
+
+pub fn total_mass_refusal(s: Settings, f: usize) -> u32
+    ensures { λ r. ⌜ r ≡ refusal (Refusals.totalMass s f) ⌝ }
+{
+    populations(s, f, 0)
+}
+
+pub fn kinetic_energy_refusal(s: Settings, f: usize) -> u32
+    ensures { λ r. ⌜ r ≡ refusal (Refusals.kineticEnergy s f) ⌝ }
+{
+    populations(s, f, force(s, 0))
+}
+
+pub fn plane_refusal(s: Settings, f: usize, i: usize) -> u32
+    ensures { λ r. ⌜ r ≡ refusal (Refusals.plane s f i) ⌝ }
+{
+    populations(s, f, direction(i, 0))
+}
+
+pub fn stream_with_faces_refusal(s: Settings, post: usize, f: usize) -> u32
+    ensures { λ r. ⌜ r ≡ refusal (Refusals.streamWithFaces s post f) ⌝ }
+{
+    populations(s, f, lengths(s, 9, post, faces(s, 0)))
+}
+
+pub fn lossless_refusal(s: Settings) -> u32
+    ensures { λ r. ⌜ r ≡ refusal (Refusals.lossless s) ⌝ }
+{
+    sides(s, faces(s, kinds(s, 0)))
+}
+
+pub fn reverse_refusal(s: Settings, f: usize, post: usize) -> u32
+    ensures { λ r. ⌜ r ≡ refusal (Refusals.reverse s f post) ⌝ }
+{
+    let n = faces(s, kinds(s, losses(s, 0)));
+    populations(s, f, lengths(s, 9, post, n))
+}
+
+pub fn step_refusal(s: Settings, f: usize, post: usize) -> u32
+    ensures { λ r. ⌜ r ≡ refusal (Refusals.step s f post) ⌝ }
+{
+    populations(s, f, lengths(s, 9, post, stepping(s, 0)))
+}
+
+// n is the number of steps.
+pub fn run_refusal(s: Settings, n: u64, f: usize, post: usize) -> u32
+    ensures { λ r. ⌜ r ≡ refusal (Refusals.run s n f post) ⌝ }
+{
+    populations(s, f, lengths(s, 9, post, stepping(s, steps(n, 0))))
+}
+
+// t is the tolerance, n the most steps.
+pub fn run_to_steady_state_refusal(
+    s: Settings,
+    t: f64,
+    n: u64,
+    f: usize,
+    post: usize,
+    u: usize,
+) -> u32
+    ensures { λ r. ⌜ r ≡ refusal (Refusals.runToSteadyState s t n f post u) ⌝ }
+{
+    let number = stepping(s, tolerance(t, steps(n, 0)));
+    populations(s, f, lengths(s, 9, post, lengths(s, 2, u, number)))
+}
