@@ -1,6 +1,6 @@
 -- A cell's collision from its parts, once for the three kinds.
 -- Assumes nothing.
-use mathlib.Core.Path.{_≡_, sym, ap, _∙_}
+use mathlib.Core.Path.{_≡_}
 use mathlib.Core.Bool.{true, false}
 use mathlib.Core.List.{List}
 use lib.Ieee.{Float}
@@ -9,22 +9,22 @@ use Rattle.cell.specs.declared.Collision.{Collision}
 use Rattle.cell.specs.Cell.{collisionMoments, equilibriaOf, guoSources, forcedBy, noSource, sourcesOf, cellBy, collidedBy, collided}
 
 -- the source without a force, and with one
-pub no-source : (m : Moments) (fx fy : Float) → forcedBy fx fy ≡ false → noSource ≡ sourcesOf m fx fy
+pub source-unforced : (m : Moments) (fx fy : Float) → forcedBy fx fy ≡ false → noSource ≡ sourcesOf m fx fy
 unfolding sourcesOf
-no-source m fx fy e = rw e
+source-unforced m fx fy e = rw e
 
-pub guo-source : (m : Moments) (fx fy : Float) (src : List Float) → forcedBy fx fy ≡ true → src ≡ guoSources m fx fy → src ≡ sourcesOf m fx fy
+pub source-forced : (m : Moments) (fx fy : Float) {src : List Float} → forcedBy fx fy ≡ true → src ≡ guoSources m fx fy → src ≡ sourcesOf m fx fy
 unfolding sourcesOf
-guo-source m fx fy src e g = rw e g
+source-forced m fx fy e es = rw e es
 
--- for any collision
-pub cell-from : (collide : List Float → List Float → List Float → List Float) (f : List Float) (fx fy : Float) (m : Moments) (feq src r : List Float)
+-- by any of the three collisions
+pub cell-from : (collide : List Float → List Float → List Float → List Float) (f : List Float) (fx fy : Float) {m : Moments} {feq src r : List Float}
     → m ≡ collisionMoments f fx fy → feq ≡ equilibriaOf m → src ≡ sourcesOf m fx fy → r ≡ collide f feq src → r ≡ cellBy collide f fx fy
 unfolding cellBy
-cell-from collide f fx fy m feq src r em ef es er = rw (← em, ← ef, ← es) er
+cell-from collide f fx fy em ef es er = rw (← em, ← ef, ← es) er
 
--- for the collision of a kind
-pub collided-from : (k k′ : Collision) (f : List Float) (tau fx fy : Float) (m : Moments) (feq src r : List Float)
+-- by kind
+pub collided-from : {k k′ : Collision} (f : List Float) (tau fx fy : Float) {m : Moments} {feq src r : List Float}
     → m ≡ collisionMoments f fx fy → feq ≡ equilibriaOf m → src ≡ sourcesOf m fx fy → k ≡ k′ → r ≡ collidedBy k′ tau f feq src → r ≡ collided k f tau fx fy
 unfolding collided
-collided-from k k′ f tau fx fy m feq src r em ef es ek er = rw ek (cell-from (collidedBy k′ tau) f fx fy m feq src r em ef es er)
+collided-from {k} {k′} f tau fx fy em ef es ek er = rw ek (cell-from (collidedBy k′ tau) f fx fy em ef es er)

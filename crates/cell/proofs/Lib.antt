@@ -1,1 +1,3 @@
 pub mod Cells
+pub mod Rest
+pub mod Examples

@@ -1,4 +1,4 @@
--- The arithmetic of one cell, as the source has it: each operation rounded once, products left to right, sums over i = 0..8 from +0.0.
+-- The arithmetic of one cell, in the order of the Rust: every operation rounded once, zero products kept, sums over i = 0..8 from +0.0.
 -- Assumes nothing.
 use mathlib.Core.Bool.{Bool, cond, _||_}
 use mathlib.Core.List.{List, [], _∷_}
@@ -28,7 +28,7 @@ momentumY f = sumTo (λ i. at f i ⊗ ey i) 9
 
 -- ---- the two readings, for the force (fx, fy)
 
--- 1e-12, below which a density is too small to divide by
+-- 1e-12: below it a density is too small to divide by
 abbrev pub floor : Float
 floor = valueOf 0x3d71_9799_812d_ea11
 
@@ -65,9 +65,11 @@ equilibriumAt i m =
 unfoldable pub equilibriaOf : Moments → List Float
 equilibriaOf m = nine (λ i. equilibriumAt i m)
 
+-- e · F for the nine directions
 unfoldable pub alongForce : Float → Float → List Float
 alongForce fx fy = nine (λ i. alongAt i fx fy)
 
+-- Guo's source, before its factor
 unfoldable pub guoAt : ℕ → Moments → Float → Float → Float
 guoAt i m fx fy =
     let eu = alongAt i (m .ux) (m .uy) in
@@ -77,13 +79,14 @@ guoAt i m fx fy =
 unfoldable pub guoSources : Moments → Float → Float → List Float
 guoSources m fx fy = nine (λ i. guoAt i m fx fy)
 
--- nine zeros when both force components equal 0
+-- a force component differs from 0
 unfoldable pub forcedBy : Float → Float → Bool
 forcedBy fx fy = ne fx c0 || ne fy c0
 
 unfoldable pub noSource : List Float
 noSource = nine (λ i. c0)
 
+-- nine zeros when both force components equal 0
 unfoldable pub sourcesOf : Moments → Float → Float → List Float
 sourcesOf m fx fy = cond (forcedBy fx fy) (guoSources m fx fy) noSource
 
@@ -113,7 +116,7 @@ bgkAt r f feq src i = at f i ⊖ r .omega ⊗ (at f i ⊖ at feq i) ⊕ r .pref 
 unfoldable pub bgk : BgkRates → List Float → List Float → List Float → List Float
 bgk r f feq src = nine (bgkAt r f feq src)
 
--- the even and the odd part about the opposite direction, each relaxed at its own rate
+-- first the even and the odd part about the opposite direction are relaxed, each at its own rate
 unfoldable pub trtRelaxedAt : TrtRates → List Float → List Float → ℕ → Float
 trtRelaxedAt r f feq i =
     let o = OPP i in
@@ -124,7 +127,7 @@ trtRelaxedAt r f feq i =
 unfoldable pub trtRelaxed : TrtRates → List Float → List Float → List Float
 trtRelaxed r f feq = nine (trtRelaxedAt r f feq)
 
--- the even and the odd part of the source added
+-- then the even and the odd part of the source are added, each with its own factor
 unfoldable pub trtSourcedAt : TrtRates → List Float → List Float → ℕ → Float
 trtSourcedAt r kept src i =
     let o = OPP i in
@@ -151,10 +154,11 @@ relaxedBy rate row f feq src =
 unfoldable pub momentRates : MrtRates → List Float
 momentRates r = c0 ∷ c1·64 ∷ c1·54 ∷ c0 ∷ r .«s_q» ∷ c0 ∷ r .«s_q» ∷ r .«s_nu» ∷ r .«s_nu» ∷ []
 
+-- basisFloats is M, and normFloats M_NORM
 unfoldable pub relaxedMoments : MrtRates → List Float → List Float → List Float → List Float
 relaxedMoments r f feq src = nine (λ k. relaxedBy (at (momentRates r) k) (getD basisFloats k []) f feq src)
 
--- entry i of the moments p taken back by M, whose norms divide
+-- entry i of nine moments taken back
 unfoldable pub backAt : List (List Float) → List Float → List Float → ℕ → Float
 backAt m norms p i = sumTo (λ k. at (getD m k []) i ⊗ at p k ⊘ at norms k) 9
 
@@ -163,10 +167,11 @@ mrt r f feq src = nine (backAt basisFloats normFloats (relaxedMoments r f feq sr
 
 -- ---- one cell's collision
 
--- by one of the three collisions: its populations with their equilibria and sources
+-- by any of the three
 unfoldable pub cellBy : (List Float → List Float → List Float → List Float) → List Float → Float → Float → List Float
 cellBy collide f fx fy = let m = collisionMoments f fx fy in collide f (equilibriaOf m) (sourcesOf m fx fy)
 
+-- by kind
 unfoldable pub collidedBy : Collision → Float → List Float → List Float → List Float → List Float
 collidedBy Bgk tau = bgk (bgkRates tau)
 collidedBy Mrt tau = mrt (mrtRates tau)

@@ -1,7 +1,7 @@
-// The arithmetic of one cell: each f64 operation in the order of the Rust, sums over i = 0..8 from +0.0.
+// The arithmetic of one cell, in the order of the Rust: every operation rounded once, zero products kept, sums over i = 0..8 from +0.0.
 //
-// A cell is straight-line code over literal directions: a loop over nine, or a table read at a variable place, would keep the compiler from
-// taking several cells of a pass at once.
+// All of it is straight-line code over literal directions, in functions small enough to be inlined, so that the loop over the cells of a pass
+// can take several cells at once. A loop over nine, or a table read at a variable place, would end that.
 ghost use mathlib.Core.Path.{_≡_};
 ghost use mathlib.Core.Bool.{true, false};
 ghost use Prim.Native.Nat.{_<_};
@@ -58,10 +58,10 @@ pub struct Moments {
     pub uy: f64,
 }
 
-// The density below which both readings take a cell for empty: `floor`.
-pub const FLOOR: f64 = 1e-12;
+// Below it a density is too small to divide by: `floor`. Each reading has its own test.
+const FLOOR: f64 = 1e-12;
 
-// What is read of a cell: at rest where the density is below the floor, however far below 0.
+// What is read of a cell: at rest where the density is below the floor, negative densities included.
 pub fn read_moments(f: [f64; 9], fx: f64, fy: f64) -> Moments
     ensures { λ r. ⌜ r ≡ readMoments f fx fy ⌝ }
 {
@@ -156,7 +156,7 @@ fn along_force(fx: f64, fy: f64) -> [f64; 9]
     ]
 }
 
-// e·F is passed, since it is the same for every cell of a pass.
+// Guo's source, before its factor. e·F is passed, since it is the same for every cell of a pass.
 fn guo_source(i: usize, m: Moments, fx: f64, fy: f64, ef: [f64; 9]) -> f64
     requires { ⌜ (i < 9) × (ef ≡ alongForce fx fy) ⌝ }
     ensures { λ r. ⌜ r ≡ guoAt i m fx fy ⌝ }
@@ -182,14 +182,14 @@ fn guo_sources(m: Moments, fx: f64, fy: f64, ef: [f64; 9]) -> [f64; 9]
     ]
 }
 
-// Whether there is a force at all.
+// Whether a force component differs from 0.
 pub fn forced(fx: f64, fy: f64) -> bool
     ensures { λ r. ⌜ r ≡ forcedBy fx fy ⌝ }
 {
     (fx != 0.0) | (fy != 0.0)
 }
 
-// Nine zeros where there is no force.
+// Nine zeros without a force.
 fn sources(m: Moments, fx: f64, fy: f64) -> [f64; 9]
     ensures { λ r. ⌜ r ≡ sourcesOf m fx fy ⌝ }
 {
@@ -276,7 +276,9 @@ pub fn collide_bgk(f: [f64; 9], feq: [f64; 9], src: [f64; 9], rates: BgkRates) -
     ]
 }
 
-// The even and the odd part about the opposite direction, each relaxed at its own rate.
+// TRT comes in two halves: the whole is too large to be inlined twice, with a force and without.
+//
+// First the even and the odd part about the opposite direction are relaxed, each at its own rate.
 fn trt_relaxed_entry(i: usize, f: [f64; 9], feq: [f64; 9], rates: TrtRates) -> f64
     requires { ⌜ i < 9 ⌝ }
     ensures { λ r. ⌜ r ≡ trtRelaxedAt rates f feq i ⌝ }
@@ -305,7 +307,7 @@ fn trt_relaxed(f: [f64; 9], feq: [f64; 9], rates: TrtRates) -> [f64; 9]
     ]
 }
 
-// The even and the odd part of the source added.
+// Then the even and the odd part of the source are added, each with its own factor.
 fn trt_sourced_entry(i: usize, kept: [f64; 9], src: [f64; 9], rates: TrtRates) -> f64
     requires { ⌜ i < 9 ⌝ }
     ensures { λ r. ⌜ r ≡ trtSourcedAt rates kept src i ⌝ }
@@ -381,43 +383,43 @@ fn relaxed_moments(f: [f64; 9], feq: [f64; 9], src: [f64; 9], rates: MrtRates) -
     ]
 }
 
-// Entry i of the moments p taken back by the basis m. The tables are passed, since one that is named here would be built anew for each entry.
-fn back(i: usize, m: [[f64; 9]; 9], norms: [f64; 9], p: [f64; 9]) -> f64
+// Entry i of nine moments taken back. The tables are passed, since a table that is named here would be built anew for each entry.
+fn back(i: usize, m: [[f64; 9]; 9], norms: [f64; 9], post_m: [f64; 9]) -> f64
     requires { ⌜ i < 9 ⌝ }
-    ensures { λ r. ⌜ r ≡ backAt m norms p i ⌝ }
+    ensures { λ r. ⌜ r ≡ backAt m norms «post_m» i ⌝ }
 {
     0.0
-        + m[0][i] * p[0] / norms[0]
-        + m[1][i] * p[1] / norms[1]
-        + m[2][i] * p[2] / norms[2]
-        + m[3][i] * p[3] / norms[3]
-        + m[4][i] * p[4] / norms[4]
-        + m[5][i] * p[5] / norms[5]
-        + m[6][i] * p[6] / norms[6]
-        + m[7][i] * p[7] / norms[7]
-        + m[8][i] * p[8] / norms[8]
+        + m[0][i] * post_m[0] / norms[0]
+        + m[1][i] * post_m[1] / norms[1]
+        + m[2][i] * post_m[2] / norms[2]
+        + m[3][i] * post_m[3] / norms[3]
+        + m[4][i] * post_m[4] / norms[4]
+        + m[5][i] * post_m[5] / norms[5]
+        + m[6][i] * post_m[6] / norms[6]
+        + m[7][i] * post_m[7] / norms[7]
+        + m[8][i] * post_m[8] / norms[8]
 }
 
 pub fn collide_mrt(f: [f64; 9], feq: [f64; 9], src: [f64; 9], rates: MrtRates) -> [f64; 9]
     ensures { λ r. ⌜ r ≡ mrt rates f feq src ⌝ }
 {
-    let p = relaxed_moments(f, feq, src, rates);
+    let post_m = relaxed_moments(f, feq, src, rates);
     let m = lattice::basis();
     let norms = lattice::norms();
     [
-        back(0, m, norms, p),
-        back(1, m, norms, p),
-        back(2, m, norms, p),
-        back(3, m, norms, p),
-        back(4, m, norms, p),
-        back(5, m, norms, p),
-        back(6, m, norms, p),
-        back(7, m, norms, p),
-        back(8, m, norms, p),
+        back(0, m, norms, post_m),
+        back(1, m, norms, post_m),
+        back(2, m, norms, post_m),
+        back(3, m, norms, post_m),
+        back(4, m, norms, post_m),
+        back(5, m, norms, post_m),
+        back(6, m, norms, post_m),
+        back(7, m, norms, post_m),
+        back(8, m, norms, post_m),
     ]
 }
 
-// ---- one cell's collision
+// ---- one cell's collision, for the loops of a pass that knows its rates and whether there is a force
 
 pub fn bgk_cell(f: [f64; 9], fx: f64, fy: f64, rates: BgkRates) -> [f64; 9]
     requires { ⌜ forcedBy fx fy ≡ false ⌝ }
@@ -458,6 +460,7 @@ pub fn trt_cell_forced(f: [f64; 9], fx: f64, fy: f64, rates: TrtRates) -> [f64; 
     trt_sourced(kept, guo_sources(m, fx, fy, along_force(fx, fy)), rates)
 }
 
+// Beside MRT's two transforms the choice of the source costs next to nothing.
 pub fn mrt_cell(f: [f64; 9], fx: f64, fy: f64, rates: MrtRates) -> [f64; 9]
     ensures { λ r. ⌜ r ≡ cellBy (mrt rates) f fx fy ⌝ }
 {
@@ -465,13 +468,15 @@ pub fn mrt_cell(f: [f64; 9], fx: f64, fy: f64, rates: MrtRates) -> [f64; 9]
     collide_mrt(f, equilibria(m), sources(m, fx, fy), rates)
 }
 
+// ---- one cell's collision by kind
+
+// The Trt variant carries its minus rate.
 pub enum Collision {
     Bgk,
     Mrt,
     Trt(f64),
 }
 
-// One cell's collision by kind.
 pub fn collide(k: Collision, f: [f64; 9], tau: f64, fx: f64, fy: f64) -> [f64; 9]
     ensures { λ r. ⌜ r ≡ collided k f tau fx fy ⌝ }
 {

@@ -20,22 +20,22 @@ returns c =
     let n = c1 .before in
     let b = n .before in
     let p = b .before in
-    rw (← b .basis .ensures, ← n .norms .ensures, ← p .relaxed-moments .ensures) (nine-of (backAt (b .basis .result) (n .norms .result) (p .relaxed-moments .result)) (c1 .back .ensures) (c2 .back2 .ensures) (c3 .back3 .ensures) (c4 .back4 .ensures) (c5 .back5 .ensures) (c6 .back6 .ensures) (c7 .back7 .ensures) (c8 .back8 .ensures) (c .back9 .ensures))
+    rw (← b .basis .ensures, ← n .norms .ensures, ← p .relaxed-moments .ensures) (nine-of (backAt (b .basis .result) (n .norms .result) (p .relaxed-moments .result))
+    (c1 .back .ensures)
+    (c2 .back2 .ensures)
+    (c3 .back3 .ensures)
+    (c4 .back4 .ensures)
+    (c5 .back5 .ensures)
+    (c6 .back6 .ensures)
+    (c7 .back7 .ensures)
+    (c8 .back8 .ensures)
+    (c .back9 .ensures))
 
 pub collide-mrt-spec : {M : Type 1} → statement M
 collide-mrt-spec =
     tie.close
     (tie.spec
-    (λ c κs. search needs)
-    (λ c κs. search needs)
-    (λ c κs. search needs)
-    (λ c κs. search needs)
-    (λ c κs. search needs)
-    (λ c κs. search needs)
-    (λ c κs. search needs)
-    (λ c κs. search needs)
-    (λ c κs. search needs)
-    (λ c κs. search needs)
-    (λ c κs. search needs)
-    (λ c κs. search needs)
+    (λ c κs. search needs) (λ c κs. search needs) (λ c κs. search needs) (λ c κs. search needs)
+    (λ c κs. search needs) (λ c κs. search needs) (λ c κs. search needs) (λ c κs. search needs)
+    (λ c κs. search needs) (λ c κs. search needs) (λ c κs. search needs) (λ c κs. search needs)
     returns)

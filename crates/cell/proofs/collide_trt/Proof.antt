@@ -13,6 +13,5 @@ pub collide-trt-spec : {M : Type 1} → statement M
 collide-trt-spec =
     tie.close
     (tie.spec
-    (λ c κs. search needs)
-    (λ c κs. search needs)
+    (λ c κs. search needs) (λ c κs. search needs)
     returns)

@@ -1,4 +1,4 @@
--- `cell::density` meets its contract: the nine sums are `sumTo`'s.
+-- `cell::density` meets its contract: the sums are `sumTo`'s.
 -- Assumes nothing.
 use mathlib.Core.Path.{refl}
 use borrow.Author.Needs.{needs}
@@ -15,13 +15,7 @@ pub density-spec : {M : Type 1} → statement M
 density-spec =
     tie.close
     (tie.spec
-    (λ c. search needs)
-    (λ c. search needs)
-    (λ c. search needs)
-    (λ c. search needs)
-    (λ c. search needs)
-    (λ c. search needs)
-    (λ c. search needs)
-    (λ c. search needs)
+    (λ c. search needs) (λ c. search needs) (λ c. search needs) (λ c. search needs)
+    (λ c. search needs) (λ c. search needs) (λ c. search needs) (λ c. search needs)
     (λ c. search needs)
     returns)

@@ -13,6 +13,5 @@ pub equilibrium-spec : {M : Type 1} → statement M
 equilibrium-spec =
     tie.close
     (tie.spec
-    (λ c κs. search needs)
-    (λ c κs. search needs)
+    (λ c κs. search needs) (λ c κs. search needs)
     returns)

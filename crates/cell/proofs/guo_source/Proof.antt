@@ -1,12 +1,12 @@
 -- `cell::guo_source` meets its contract: the operations are the definition's, at what the four calls give, and e·F is the list's entry.
 -- Assumes nothing.
-use mathlib.Core.List.{List}
 use mathlib.Core.Path.{_≡_, ap, _∙_}
+use mathlib.Core.List.{List}
 use Prim.Native.Nat.{ℕ, _<_}
 use lib.Ieee.{Float, nan}
 use borrow.Author.Needs.{needs}
-use Rattle.number.proofs.Nine.{at-nine}
 use Rattle.number.specs.Nine.{at}
+use Rattle.number.proofs.Nine.{at-nine}
 use Rattle.cell.specs.Cell.{alongAt, alongForce, guoAt}
 use Rattle.cell.proofs.guo_source.Statement.{statement}
 use Rattle.cell.proofs.guo_source.Tie as tie
@@ -29,10 +29,6 @@ pub guo-source-spec : {M : Type 1} → statement M
 guo-source-spec =
     tie.close
     (tie.spec
-    (λ c κs. search needs)
-    (λ c κs. search needs)
-    (λ c κs. search needs)
-    (λ c κs. search needs)
-    (λ c. search needs)
-    (λ c. search needs)
+    (λ c κs. search needs) (λ c κs. search needs) (λ c κs. search needs) (λ c κs. search needs)
+    (λ c. search needs) (λ c. search needs)
     returns)

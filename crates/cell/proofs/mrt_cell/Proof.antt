@@ -10,14 +10,15 @@ returns : tie.Need-returns
 returns c =
     let m = c .before .before .before in
     let s = m .before in
-    cell-from (mrt (s .args .rates)) _ _ _ _ _ _ _ (m .collision-moments .ensures) (c .before .before .equilibria .ensures) (c .before .sources .ensures) (c .collide-mrt .ensures)
+    cell-from (mrt (s .args .rates)) _ _ _
+    (m .collision-moments .ensures)
+    (c .before .before .equilibria .ensures)
+    (c .before .sources .ensures)
+    (c .collide-mrt .ensures)
 
 pub mrt-cell-spec : {M : Type 1} → statement M
 mrt-cell-spec =
     tie.close
     (tie.spec
-    (λ c κs. search needs)
-    (λ c κs. search needs)
-    (λ c κs. search needs)
-    (λ c κs. search needs)
+    (λ c κs. search needs) (λ c κs. search needs) (λ c κs. search needs) (λ c κs. search needs)
     returns)

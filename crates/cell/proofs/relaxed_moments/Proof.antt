@@ -3,8 +3,8 @@
 use mathlib.Core.List.{[]}
 use lib.ListN.{getD}
 use borrow.Author.Needs.{needs}
-use Rattle.number.proofs.Nine.{nine-of}
 use Rattle.number.specs.Nine.{at}
+use Rattle.number.proofs.Nine.{nine-of}
 use Rattle.cell.specs.Cell.{momentRates, relaxedBy, relaxedMoments}
 use Rattle.cell.proofs.relaxed_moments.Statement.{statement}
 use Rattle.cell.proofs.relaxed_moments.Tie as tie
@@ -22,29 +22,24 @@ returns c =
     let c1 = c2 .before .before in
     let b = c1 .before .before in
     let s = b .before .args in
-    rw (← b .basis .ensures) (nine-of (λ k. relaxedBy (at (momentRates (s .rates)) k) (getD (b .basis .result) k []) (s .f) (s .feq) (s .src)) (c1 .relaxed .ensures) (c2 .relaxed2 .ensures) (c3 .relaxed3 .ensures) (c4 .relaxed4 .ensures) (c5 .relaxed5 .ensures) (c6 .relaxed6 .ensures) (c7 .relaxed7 .ensures) (c8 .relaxed8 .ensures) (c .relaxed9 .ensures))
+    rw (← b .basis .ensures) (nine-of (λ k. relaxedBy (at (momentRates (s .rates)) k) (getD (b .basis .result) k []) (s .f) (s .feq) (s .src))
+    (c1 .relaxed .ensures)
+    (c2 .relaxed2 .ensures)
+    (c3 .relaxed3 .ensures)
+    (c4 .relaxed4 .ensures)
+    (c5 .relaxed5 .ensures)
+    (c6 .relaxed6 .ensures)
+    (c7 .relaxed7 .ensures)
+    (c8 .relaxed8 .ensures)
+    (c .relaxed9 .ensures))
 
 pub relaxed-moments-spec : {M : Type 1} → statement M
 relaxed-moments-spec =
     tie.close
     (tie.spec
-    (λ c κs. search needs)
-    (λ c. search needs)
-    (λ c κs. search needs)
-    (λ c. search needs)
-    (λ c κs. search needs)
-    (λ c. search needs)
-    (λ c κs. search needs)
-    (λ c. search needs)
-    (λ c κs. search needs)
-    (λ c. search needs)
-    (λ c κs. search needs)
-    (λ c. search needs)
-    (λ c κs. search needs)
-    (λ c. search needs)
-    (λ c κs. search needs)
-    (λ c. search needs)
-    (λ c κs. search needs)
-    (λ c. search needs)
-    (λ c κs. search needs)
+    (λ c κs. search needs) (λ c. search needs) (λ c κs. search needs) (λ c. search needs)
+    (λ c κs. search needs) (λ c. search needs) (λ c κs. search needs) (λ c. search needs)
+    (λ c κs. search needs) (λ c. search needs) (λ c κs. search needs) (λ c. search needs)
+    (λ c κs. search needs) (λ c. search needs) (λ c κs. search needs) (λ c. search needs)
+    (λ c κs. search needs) (λ c. search needs) (λ c κs. search needs)
     returns)

@@ -2,7 +2,7 @@
 -- Assumes nothing.
 use borrow.Author.Needs.{needs}
 use Rattle.cell.specs.Cell.{trt, noSource}
-use Rattle.cell.proofs.Cells.{cell-from, no-source}
+use Rattle.cell.proofs.Cells.{cell-from, source-unforced}
 use Rattle.cell.proofs.trt_cell.Statement.{statement}
 use Rattle.cell.proofs.trt_cell.Tie as tie
 
@@ -11,14 +11,15 @@ unfolding trt noSource
 returns c =
     let m = c .before .before .before in
     let s = m .before in
-    cell-from (trt (s .args .rates)) _ _ _ _ _ _ _ (m .collision-moments .ensures) (c .before .before .equilibria .ensures) (no-source _ _ _ (s .pre)) (rw (← c .before .trt-relaxed .ensures) (c .trt-sourced .ensures))
+    cell-from (trt (s .args .rates)) _ _ _
+    (m .collision-moments .ensures)
+    (c .before .before .equilibria .ensures)
+    (source-unforced _ _ _ (s .pre))
+    (rw (← c .before .trt-relaxed .ensures) (c .trt-sourced .ensures))
 
 pub trt-cell-spec : {M : Type 1} → statement M
 trt-cell-spec =
     tie.close
     (tie.spec
-    (λ c κs. search needs)
-    (λ c κs. search needs)
-    (λ c κs. search needs)
-    (λ c κs. search needs)
+    (λ c κs. search needs) (λ c κs. search needs) (λ c κs. search needs) (λ c κs. search needs)
     returns)

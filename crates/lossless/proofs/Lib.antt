@@ -1,0 +1,10 @@
+pub mod Ends
+pub mod Turns
+pub mod Inverse
+pub mod Losing
+pub mod Criterion
+pub mod Least
+pub mod Reverse
+pub mod Whole
+pub mod Outcomes
+pub mod One

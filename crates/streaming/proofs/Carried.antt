@@ -1,0 +1,93 @@
+-- Streaming and the four faces together: fields that the code reached one after the other are the rule's, and a buffer is told by its field.
+-- Assumes nothing.
+use mathlib.Core.Path.{_≡_, refl, sym, ap, _∙_}
+use mathlib.Core.Bool.{Bool, true, false, _||_}
+use mathlib.Core.List.{List}
+use Prim.Native.Nat.{ℕ, _*_}
+use lib.ListN.{length}
+use Rattle.lattice.specs.Lattice.{X, Y}
+use Rattle.grid.specs.Grid.{Field, fieldOf, bufferOf, Same}
+use Rattle.grid.proofs.Fields.{same-refl, same-trans, buffer-length, field-of-buffer, is-buffer}
+use Rattle.settings.specs.declared.Settings.{Settings}
+use Rattle.settings.specs.Tests.{drives, driven}
+use Rattle.settings.proofs.Laws.{or-left, or-right}
+use Rattle.streaming.specs.Steps.{facing, turned, streamed}
+use Rattle.streaming.specs.Faces.{min, max, face}
+use Rattle.streaming.specs.Streaming.{bounded, next, nextBuffer, carried}
+use Rattle.streaming.proofs.Turned.{facing-small, facing-twice}
+use Rattle.streaming.proofs.Faces.{face-same}
+
+-- ---- the four faces
+
+module _ (s : Settings) (post : Field) where
+  -- each face from the field before it
+  pub four-faces : (f0 : Field) {f1 f2 f3 f4 : Field}
+      → Same (s .nx) (s .ny) f1 (face X min (s .«x_min») (s .nx) (s .ny) post f0)
+      → Same (s .nx) (s .ny) f2 (face X max (s .«x_max») (s .nx) (s .ny) post f1)
+      → Same (s .nx) (s .ny) f3 (face Y min (s .«y_min») (s .nx) (s .ny) post f2)
+      → Same (s .nx) (s .ny) f4 (face Y max (s .«y_max») (s .nx) (s .ny) post f3)
+      → Same (s .nx) (s .ny) f4 (bounded s post f0)
+  four-faces f0 s1 s2 s3 s4 =
+      let t2 = same-trans s2 (face-same X max (s .«x_max») same-refl s1) in
+      let t3 = same-trans s3 (face-same Y min (s .«y_min») same-refl t2) in
+      same-trans s4 (face-same Y max (s .«y_max») same-refl t3)
+
+  -- the faces after streaming
+  pub then-faces : {f1 f2 : Field} → Same (s .nx) (s .ny) f1 (streamed (s .nx) (s .ny) post) → Same (s .nx) (s .ny) f2 (bounded s post f1) → Same (s .nx) (s .ny) f2 (next s post)
+  unfolding next
+  then-faces s1 s2 =
+      let t1 = face-same X min (s .«x_min») same-refl s1 in
+      let t2 = face-same X max (s .«x_max») same-refl t1 in
+      let t3 = face-same Y min (s .«y_min») same-refl t2 in
+      same-trans s2 (face-same Y max (s .«y_max») same-refl t3)
+
+-- no face is driven
+pub record Undriven (s : Settings) : Type 0 where
+  pub x-min : drives (s .«x_min») ≡ false
+  pub x-max : drives (s .«x_max») ≡ false
+  pub y-min : drives (s .«y_min») ≡ false
+  pub y-max : drives (s .«y_max») ≡ false
+
+pub undriven : (s : Settings) → driven s ≡ false → Undriven s
+unfolding driven
+undriven s e =
+    let a = drives (s .«x_min») in
+    let b = drives (s .«x_max») in
+    let c = drives (s .«y_min») in
+    let d = drives (s .«y_max») in
+    let abc = or-left (a || b || c) d e in
+    let ab = or-left (a || b) c abc in
+    record { x-min = or-left a b ab; x-max = or-right a b ab; y-min = or-right (a || b) c abc; y-max = or-right (a || b || c) d e }
+
+-- ---- the buffer
+
+module _ (back : Bool) (s : Settings) (b : List ℕ) where
+  pub carried-length : length (carried back s b) ≡ 9 * (s .nx * s .ny)
+  unfolding carried
+  carried-length = buffer-length (s .nx) (s .ny) _
+
+  -- the field of the buffer that is carried to
+  pub carried-field : Same (s .nx) (s .ny) (turned back (fieldOf (s .nx) (s .ny) (carried back s b))) (next s (turned back (fieldOf (s .nx) (s .ny) b)))
+  unfolding carried
+  carried-field =
+      let p = next s (turned back (fieldOf (s .nx) (s .ny) b)) in
+      record {
+        here = λ x y i hx hy hi.
+            field-of-buffer (s .nx) (s .ny) (turned back p) .here x y (facing back i) hx hy (facing-small back i hi)
+            ∙ ap (p x y) (facing-twice back i hi);
+      }
+
+  -- a buffer with that field is the buffer
+  pub is-carried : (e : List ℕ) → length e ≡ 9 * (s .nx * s .ny) → Same (s .nx) (s .ny) (turned back (fieldOf (s .nx) (s .ny) e)) (next s (turned back (fieldOf (s .nx) (s .ny) b))) → e ≡ carried back s b
+  unfolding carried
+  is-carried e size w =
+      is-buffer (s .nx) (s .ny) e _ size
+      (record {
+        here = λ x y i hx hy hi.
+            sym (ap (fieldOf (s .nx) (s .ny) e x y) (facing-twice back i hi)) ∙ w .here x y (facing back i) hx hy (facing-small back i hi);
+      })
+
+-- forward it is the next population buffer
+pub carried-forward : (s : Settings) (post : List ℕ) → carried false s post ≡ nextBuffer s post
+unfolding carried nextBuffer
+carried-forward s post = refl

@@ -1,0 +1,107 @@
+-- The directions of the four faces, by computed tables over axis and side: which come in, and that they are three different ones.
+-- Assumes nothing.
+use mathlib.Core.Path.{_≡_, refl, sym, ap, _∙_, subst}
+use mathlib.Core.Bool.{Bool, true, false, _||_}
+use mathlib.Core.Logic.{_⊎_, inl, inr}
+use Prim.Native.Nat.{ℕ, zero, suc, _<_}
+use native.Mathlib.Omega.{arith}
+use lib.Dec.{T, eqb}
+use borrow.Author.Tests.{ltb-true, eqb-true, eqb-false}
+use Rattle.number.specs.Nine.{nine}
+use Rattle.number.proofs.Nine.{all-nine}
+use Rattle.lattice.specs.Lattice.{Axis, X, Y, directions}
+use Rattle.lattice.specs.Lookup.{axisOf, isRow, lookup}
+use Rattle.streaming.specs.declared.Names.{Names}
+use Rattle.streaming.specs.declared.Planes.{Planes}
+use Rattle.streaming.specs.Steps.{part, facing}
+use Rattle.streaming.specs.Faces.{Side, min, max, incoming, names}
+use Rattle.streaming.specs.Lines.{sideOf, planesOf, Small, Apart, Sound, Other}
+use Rattle.streaming.proofs.Turned.{facing-small, facing-twice}
+
+-- ---- the code's numbers for axes and sides
+
+pub not-x : (a : ℕ) → (a ≡ 0 → ⊥) → axisOf a ≡ Y
+not-x zero h = absurd (h refl)
+not-x (suc a) h = refl
+
+pub not-min : (s : ℕ) → (s ≡ 0 → ⊥) → sideOf s ≡ max
+not-min zero h = absurd (h refl)
+not-min (suc s) h = refl
+
+-- ---- the names of a face
+
+-- direction i is n, n + t or n - t
+abbrev pub named : Names → ℕ → Bool
+named d i = eqb i (d .n) || eqb i (d .np) || eqb i (d .nm)
+
+-- these three come in, and no others
+incoming-table : (a : Axis) (s : Side) → nine (named (names a s)) ≡ nine (λ i. incoming s (part a i))
+unfolding directions names lookup isRow
+incoming-table X min = refl
+incoming-table X max = refl
+incoming-table Y min = refl
+incoming-table Y max = refl
+
+pub comes-in : (a : Axis) (s : Side) (i : ℕ) → i < 9 → named (names a s) i ≡ incoming s (part a i)
+comes-in a s = all-nine (named (names a s)) _ (incoming-table a s)
+
+pub sound : (a : Axis) (s : Side) → Sound (names a s)
+unfolding directions names lookup isRow
+sound X min = search arith
+sound X max = search arith
+sound Y min = search arith
+sound Y max = search arith
+
+-- ---- three planes
+
+pub planes-of : (g : ℕ → ℕ) (d : Names) {a b c : ℕ} → a ≡ g (d .n) → b ≡ g (d .np) → c ≡ g (d .nm) → _≡_ {A = Planes} (record { n = a; np = b; nm = c }) (planesOf g d)
+planes-of g d p q r = λ x. record { n = p x; np = q x; nm = r x }
+
+-- ---- one of three directions, or none
+
+pub data One (i : ℕ) (d : Names) : Type 0 where
+  is-n : i ≡ d .n → One i d
+  is-np : i ≡ d .np → One i d
+  is-nm : i ≡ d .nm → One i d
+
+pub one-of : (i : ℕ) (d : Names) → named d i ≡ true → One i d
+one-of i d e = by-tests (eqb i (d .n)) (eqb i (d .np)) (eqb i (d .nm)) refl refl refl e
+  where
+    by-tests : (p q r : Bool) → eqb i (d .n) ≡ p → eqb i (d .np) ≡ q → eqb i (d .nm) ≡ r → p || q || r ≡ true → One i d
+    by-tests true q r ep eq er e = is-n (eqb-true i (d .n) ep)
+    by-tests false true r ep eq er e = is-np (eqb-true i (d .np) eq)
+    by-tests false false true ep eq er e = is-nm (eqb-true i (d .nm) er)
+    by-tests false false false ep eq er e = absurd (subst T (sym e) tt)
+
+pub none-of : (i : ℕ) (d : Names) → named d i ≡ false → Other i (planesOf (λ j. j) d)
+none-of i d e = by-tests (eqb i (d .n)) (eqb i (d .np)) (eqb i (d .nm)) refl refl refl e
+  where
+    by-tests : (p q r : Bool) → eqb i (d .n) ≡ p → eqb i (d .np) ≡ q → eqb i (d .nm) ≡ r → p || q || r ≡ false → Other i (planesOf (λ j. j) d)
+    by-tests true q r ep eq er e = absurd (subst T e tt)
+    by-tests false true r ep eq er e = absurd (subst T e tt)
+    by-tests false false true ep eq er e = absurd (subst T e tt)
+    by-tests false false false ep eq er e = record { n = eqb-false i (d .n) ep; np = eqb-false i (d .np) eq; nm = eqb-false i (d .nm) er }
+
+-- ---- with the travel turned round
+
+module _ (back : Bool) where
+  facing-inj : (i j : ℕ) → i < 9 → j < 9 → facing back i ≡ facing back j → i ≡ j
+  facing-inj i j hi hj e = sym (facing-twice back i hi) ∙ ap (facing back) e ∙ facing-twice back j hj
+
+  pub three-facing : (d : Names) → Apart (planesOf (λ j. j) d) → Apart (planesOf (facing back) d)
+  three-facing d h =
+      let s = h .small in
+      record {
+        small = record { n = facing-small back (d .n) (s .n); np = facing-small back (d .np) (s .np); nm = facing-small back (d .nm) (s .nm) };
+        n-np = λ e. h .n-np (facing-inj (d .n) (d .np) (s .n) (s .np) e);
+        n-nm = λ e. h .n-nm (facing-inj (d .n) (d .nm) (s .n) (s .nm) e);
+        np-nm = λ e. h .np-nm (facing-inj (d .np) (d .nm) (s .np) (s .nm) e);
+      }
+
+  pub other-facing : (i : ℕ) (d : Names) → i < 9 → Small (planesOf (λ j. j) d) → Other i (planesOf (λ j. j) d) → Other (facing back i) (planesOf (facing back) d)
+  other-facing i d hi s o =
+      record {
+        n = λ e. o .n (facing-inj i (d .n) hi (s .n) e);
+        np = λ e. o .np (facing-inj i (d .np) hi (s .np) e);
+        nm = λ e. o .nm (facing-inj i (d .nm) hi (s .nm) e);
+      }

@@ -1,0 +1,49 @@
+-- What opposites and mirrors make of a direction's steps. Each law is one computed table of nine, over both axes.
+-- Assumes nothing.
+use mathlib.Core.Path.{_≡_, refl}
+use Prim.Native.Nat.{ℕ, _<_}
+use Rattle.number.specs.Nine.{nine}
+use Rattle.number.proofs.Nine.{all-nine}
+use Rattle.lattice.specs.Lattice.{Axis, X, Y, directions, opposites, OPP}
+use Rattle.lattice.specs.Lookup.{mirror, lookup, isRow}
+use Rattle.streaming.specs.Steps.{Step, stay, up, down, part, against}
+
+pub against-twice : (e : Step) → against (against e) ≡ e
+against-twice stay = refl
+against-twice up = refl
+against-twice down = refl
+
+-- an opposite steps back along both axes
+opposite-table : (a : Axis) → nine (λ i. part a (OPP i)) ≡ nine (λ i. against (part a i))
+unfolding directions opposites
+opposite-table X = refl
+opposite-table Y = refl
+
+pub opposite-part : (a : Axis) (i : ℕ) → i < 9 → part a (OPP i) ≡ against (part a i)
+opposite-part a = all-nine (λ i. part a (OPP i)) (λ i. against (part a i)) (opposite-table a)
+
+-- a mirror steps back along its axis
+mirror-table : (a : Axis) → nine (λ i. part a (mirror a i)) ≡ nine (λ i. against (part a i))
+unfolding directions mirror lookup isRow
+mirror-table X = refl
+mirror-table Y = refl
+
+pub mirror-part : (a : Axis) (i : ℕ) → i < 9 → part a (mirror a i) ≡ against (part a i)
+mirror-part a = all-nine (λ i. part a (mirror a i)) (λ i. against (part a i)) (mirror-table a)
+
+-- and leaves the other axis alone
+other-table : nine (λ i. part Y (mirror X i)) ≡ nine (λ i. part Y i)
+unfolding directions mirror lookup isRow
+other-table = refl
+
+pub mirror-other : (i : ℕ) → i < 9 → part Y (mirror X i) ≡ part Y i
+mirror-other = all-nine (λ i. part Y (mirror X i)) (λ i. part Y i) other-table
+
+-- a mirror between two opposites is the mirror
+between-table : (a : Axis) → nine (λ i. OPP (mirror a (OPP i))) ≡ nine (λ i. mirror a i)
+unfolding directions opposites mirror lookup isRow
+between-table X = refl
+between-table Y = refl
+
+pub mirror-between : (a : Axis) (i : ℕ) → i < 9 → OPP (mirror a (OPP i)) ≡ mirror a i
+mirror-between a = all-nine (λ i. OPP (mirror a (OPP i))) (mirror a) (between-table a)

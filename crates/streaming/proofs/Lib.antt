@@ -1,0 +1,10 @@
+pub mod Ring
+pub mod Turned
+pub mod Rows
+pub mod Directions
+pub mod Lines
+pub mod Faces
+pub mod Carried
+pub mod One
+pub mod Dirs
+pub mod Source

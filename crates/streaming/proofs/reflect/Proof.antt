@@ -1,0 +1,82 @@
+-- `streaming::reflect` meets its contract. The loop's invariant: the entries of the first k cells are written.
+-- Assumes nothing.
+use Prim.Native.Nat.{_-_, _≤_}
+use native.Mathlib.Omega.{arith}
+use Rattle.streaming.specs.Lines.{spot, entriesAt, Along}
+use Rattle.streaming.proofs.Lines.{holds-spot, along-none, along-more, along-all}
+use Rattle.streaming.proofs.reflect.Statement.{statement}
+use Rattle.streaming.proofs.reflect.Tie as tie
+
+abbrev Inv-loop : tie.InvT-loop
+Inv-loop line n to from post f₀ k₀ f k =
+    (k ≤ line .count) × Along f₀ f n line to k (λ j. entriesAt post n (spot line j) from)
+
+abbrev μ-loop : tie.MeasureT-loop
+μ-loop line n to from post f₀ k₀ f k = line .count - k
+
+loop-holds : tie.Need-loop-holds Inv-loop μ-loop
+loop-holds c = (omega arith, along-none _ _ _ _ _)
+
+mul-c : tie.Need-mul-c Inv-loop μ-loop
+mul-c c =
+    let head = c .before .before .before in
+    let i = head .before .before .before .pre .0 .0 in
+    omega (arith, i .few, i .cell (head .loop .k) (omega arith))
+
+add-c : tie.Need-add-c Inv-loop μ-loop
+add-c c =
+    let head = c .before .before .before .before in
+    let i = head .before .before .before .pre .0 .0 in
+    omega (arith, i .few, i .cell (head .loop .k) (omega arith))
+
+entries-at-requires : tie.Need-entries-at-requires Inv-loop μ-loop
+entries-at-requires c κs =
+    let test = c .before .before .before in
+    let head = test .before .before in
+    let s = head .before .before .before in
+    (holds-spot _ (head .loop .k) (s .pre .0 .0) (test .if1 .taken) (s .pre .1 .0), s .pre .0 .2)
+
+put-requires : tie.Need-put-requires Inv-loop μ-loop
+put-requires c κs =
+    let test = c .before .before .before .before in
+    let head = test .before .before in
+    let s = head .before .before .before in
+    (holds-spot _ (head .loop .k) (s .pre .0 .0) (test .if1 .taken) (omega (arith, head .loop .inv .1 .size)), s .pre .0 .1)
+
+add-k : tie.Need-add-k Inv-loop μ-loop
+add-k c = omega arith
+
+loop-less : tie.Need-loop-less Inv-loop μ-loop
+loop-less c = omega arith
+
+loop-again : tie.Need-loop-again Inv-loop μ-loop
+loop-again c =
+    let put = c .before .before in
+    let got = put .before in
+    let test = got .before .before .before .before in
+    let head = test .before .before in
+    let s = head .before .before .before in
+    along-more _ _ _ _ _ _ (head .loop .k) _ _ (s .pre .0 .0) (test .if1 .taken) (head .loop .inv .1) (put .put .ensures) (got .entries-at .ensures)
+
+same-length : tie.Need-same-length Inv-loop μ-loop
+same-length c = c .before .before .loop .inv .1 .size
+
+returns : tie.Need-returns Inv-loop μ-loop
+returns c = along-all (c .before .before .loop .inv .1) (omega arith)
+
+pub reflect-spec : {M : Type 1} → statement M
+reflect-spec =
+    tie.close
+    (tie.spec
+    Inv-loop
+    μ-loop
+    loop-holds
+    mul-c
+    add-c
+    entries-at-requires
+    put-requires
+    add-k
+    loop-less
+    loop-again
+    same-length
+    returns)

@@ -1,0 +1,97 @@
+-- `streaming::stream` meets its contract. The loop's invariant: the first j planes are written.
+-- Assumes nothing.
+use mathlib.Core.Path.{_≡_, ap, _∙_}
+use Prim.Native.Nat.{ℕ, _*_, _-_, _≤_}
+use native.Mathlib.Omega.{arith}
+use Rattle.grid.specs.Writes.{Wrote}
+use Rattle.grid.proofs.Radix.{row-in}
+use Rattle.grid.proofs.Writes.{none, to-length}
+use Rattle.streaming.proofs.Rows.{flow, plane-more, all-planes}
+use Rattle.streaming.proofs.stream.Statement.{statement}
+use Rattle.streaming.proofs.stream.Tie as tie
+
+abbrev Inv-loop : tie.InvT-loop
+Inv-loop back nx ny src dst₀ n j₀ dst j = (j ≤ 9) × Wrote dst₀ dst 0 (j * (nx * ny)) (flow back nx ny src)
+
+abbrev μ-loop : tie.MeasureT-loop
+μ-loop back nx ny src dst₀ n j₀ dst j = 9 - j
+
+mul-n : tie.Need-mul-n Inv-loop μ-loop
+mul-n c = omega arith
+
+loop-holds : tie.Need-loop-holds Inv-loop μ-loop
+loop-holds c = (omega arith, to-length (none _ _ _) (omega arith))
+
+facing-requires : tie.Need-facing-requires Inv-loop μ-loop
+facing-requires c κs = omega arith
+
+step-back-requires : tie.Need-step-back-requires Inv-loop μ-loop
+step-back-requires c κs = omega arith
+
+step-back-requires-2 : tie.Need-step-back-requires-2 Inv-loop μ-loop
+step-back-requires-2 c κs = omega arith
+
+mul-plane : tie.Need-mul-plane Inv-loop μ-loop
+mul-plane c =
+    let head = c .before .before .before .before in
+    let a = head .before .before .before .args in
+    omega (arith, row-in (a .nx * a .ny) 9 (head .loop .j) (omega arith))
+
+plane-requires : tie.Need-plane-requires Inv-loop μ-loop
+plane-requires c κs =
+    let head = c .before .before .before .before .before in
+    let a = head .before .before .before .args in
+    omega (arith, row-in (a .nx * a .ny) 9 (head .loop .j) (omega arith))
+
+add-j : tie.Need-add-j Inv-loop μ-loop
+add-j c = omega arith
+
+loop-less : tie.Need-loop-less Inv-loop μ-loop
+loop-less c = omega arith
+
+loop-again : tie.Need-loop-again Inv-loop μ-loop
+loop-again c =
+    let after-plane = c .before .before in
+    let after-y = after-plane .before .before in
+    let after-x = after-y .before in
+    let after-facing = after-x .before in
+    let head = after-facing .before .before in
+    let a = head .before .before .before .args in (
+      omega arith,
+      plane-more (a .back) (a .src .now) _ (a .nx) (a .ny) _ _ (head .loop .j) (after-facing .facing .result) (after-x .step-back .result) (after-y .step-back2 .result)
+          (after-facing .facing .ensures .0)
+          (after-x .step-back .ensures .0)
+          (after-y .step-back2 .ensures .0)
+          (head .loop .inv .1)
+          (after-plane .plane .ensures),
+    )
+
+same-length : tie.Need-same-length Inv-loop μ-loop
+same-length c = c .before .loop .inv .1 .size
+
+returns : tie.Need-returns Inv-loop μ-loop
+returns c =
+    let head = c .before in
+    let a = head .before .before .before .args in (
+      head .loop .inv .1 .size,
+      all-planes (a .back) (a .src .now) _ (a .nx) (a .ny) _ (to-length (head .loop .inv .1) (ap (λ (j : ℕ). j * (a .nx * a .ny)) (omega arith))),
+    )
+
+pub stream-spec : {M : Type 1} → statement M
+stream-spec =
+    tie.close
+    (tie.spec
+    Inv-loop
+    μ-loop
+    mul-n
+    loop-holds
+    facing-requires
+    step-back-requires
+    step-back-requires-2
+    mul-plane
+    plane-requires
+    add-j
+    loop-less
+    loop-again
+    same-length
+    returns)

@@ -1,0 +1,6 @@
+pub mod Steps
+pub mod Faces
+pub mod Streaming
+pub mod Source
+pub mod Rows
+pub mod Lines

@@ -1,0 +1,117 @@
+-- What the functions below `face` cite: where a face's cells stand, the three entries that come in at each, and what writing them leaves.
+-- Assumes nothing.
+use mathlib.Core.Path.{_≡_}
+use mathlib.Core.Bool.{Bool}
+use mathlib.Core.List.{List}
+use Prim.Native.Nat.{ℕ, zero, suc, _+_, _-_, _*_, _≤_, _<_}
+use lib.ListN.{length, getD}
+use lib.Ieee.{Float}
+use Rattle.lattice.specs.Lattice.{Axis, X, Y}
+use Rattle.grid.specs.Grid.{Field, mostCells}
+use Rattle.streaming.specs.Steps.{facing}
+use Rattle.streaming.specs.Faces.{Side, min, max, normal, tangent, along, byVelocity, byPressure}
+use Rattle.streaming.specs.declared.Frame.{Frame}
+use Rattle.streaming.specs.declared.Names.{Names}
+use Rattle.streaming.specs.declared.Line.{Line}
+use Rattle.streaming.specs.declared.Planes.{Planes}
+use Rattle.streaming.specs.declared.Entries.{Entries}
+use Rattle.streaming.specs.declared.Prescribed.{Prescribed}
+use Rattle.streaming.specs.declared.ZouHe.{ZouHe}
+use Rattle.streaming.specs.declared.ZouHe.the-variants.{Velocity, Pressure}
+
+-- ---- a face
+
+-- the code's number for a side: 0 for min, any other for max
+abbrev pub sideOf : ℕ → Side
+sideOf zero = min
+sideOf (suc s) = max
+
+-- its inward normal and its tangent
+abbrev pub frameOf : Axis → Side → Frame
+frameOf a s = record { n0 = normal a s X; n1 = normal a s Y; t0 = tangent a X; t1 = tangent a Y }
+
+-- its cells: a column of an x face, a row of a y face
+abbrev pub lineOf : Axis → Side → ℕ → ℕ → Line
+lineOf X min nx ny = record { start = 0; stride = nx; count = ny }
+lineOf X max nx ny = record { start = nx - 1; stride = nx; count = ny }
+lineOf Y min nx ny = record { start = 0; stride = 1; count = nx }
+lineOf Y max nx ny = record { start = (ny - 1) * nx; stride = 1; count = nx }
+
+-- ---- the cells of a line
+
+-- cell k
+abbrev pub spot : Line → ℕ → ℕ
+spot l k = l .start + k * l .stride
+
+-- the line's cells are different cells of a grid of n
+pub record Inside (l : Line) (n : ℕ) : Type 0 where
+  pub few : n ≤ mostCells
+  pub apart : 1 ≤ l .stride
+  pub cell : (k : ℕ) → k < l .count → spot l k < n
+
+-- ---- the three directions that come in
+
+-- what a function makes of them
+abbrev pub planesOf : (ℕ → ℕ) → Names → Planes
+planesOf g d = record { n = g (d .n); np = g (d .np); nm = g (d .nm) }
+
+abbrev pub entriesOf : (ℕ → ℕ) → Names → Entries
+entriesOf g d = record { n = g (d .n); np = g (d .np); nm = g (d .nm) }
+
+-- the entries of cell c of n in three planes
+abbrev pub entriesAt : List ℕ → ℕ → ℕ → Planes → Entries
+entriesAt b n c p =
+    record { n = getD b (c + p .n * n) 0; np = getD b (c + p .np * n) 0; nm = getD b (c + p .nm * n) 0 }
+
+-- the field that has cell c of n everywhere, seen with the travel turned round or not
+abbrev pub alone : Bool → List ℕ → ℕ → ℕ → Field
+alone back b n c x y i = getD b (c + facing back i * n) 0
+
+-- three planes, and three different ones
+pub record Small (p : Planes) : Type 0 where
+  pub n : p .n < 9
+  pub np : p .np < 9
+  pub nm : p .nm < 9
+
+pub record Apart (p : Planes) : Type 0 where
+  pub small : Small p
+  pub n-np : p .n ≡ p .np → ⊥
+  pub n-nm : p .n ≡ p .nm → ⊥
+  pub np-nm : p .np ≡ p .nm → ⊥
+
+-- five directions, of which the three that come in are different
+pub record Sound (d : Names) : Type 0 where
+  pub t : d .t < 9
+  pub tm : d .tm < 9
+  pub three : Apart (planesOf (λ i. i) d)
+
+-- plane i is none of the three
+pub record Other (i : ℕ) (p : Planes) : Type 0 where
+  pub n : i ≡ p .n → ⊥
+  pub np : i ≡ p .np → ⊥
+  pub nm : i ≡ p .nm → ⊥
+
+-- ---- what a write leaves
+
+-- one cell: of a grid of n cells, e is d with v in the three planes of cell c, and all else as it was
+pub record Changed (d e : List ℕ) (n c : ℕ) (p : Planes) (v : Entries) : Type 0 where
+  pub size : length e ≡ length d
+  pub written : entriesAt e n c p ≡ v
+  pub cells : (b i : ℕ) → b < n → (b ≡ c → ⊥) → getD e (b + i * n) 0 ≡ getD d (b + i * n) 0
+  pub planes : (b i : ℕ) → b < n → Other i p → getD e (b + i * n) 0 ≡ getD d (b + i * n) 0
+
+-- a line: e is d with v j in the three planes of the line's cell j, for each j below k, and all else as it was
+pub record Along (d e : List ℕ) (n : ℕ) (l : Line) (p : Planes) (k : ℕ) (v : ℕ → Entries) : Type 0 where
+  pub size : length e ≡ length d
+  pub written : (j : ℕ) → j < k → entriesAt e n (spot l j) p ≡ v j
+  pub cells : (b i : ℕ) → b < n → ((j : ℕ) → j < k → b ≡ spot l j → ⊥) → getD e (b + i * n) 0 ≡ getD d (b + i * n) 0
+  pub planes : (b i : ℕ) → b < n → Other i p → getD e (b + i * n) 0 ≡ getD d (b + i * n) 0
+
+-- ---- zou_he: what a face prescribes
+
+abbrev pub velocityOf : Axis → Side → Float → Float → ZouHe
+velocityOf a s u v = Velocity (along u v (normal a s)) (along u v (tangent a))
+
+abbrev pub prescribed : ZouHe → Float → Prescribed
+prescribed (Velocity un ut) sum = byVelocity un ut sum
+prescribed (Pressure rho) sum = byPressure rho sum

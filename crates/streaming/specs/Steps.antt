@@ -1,0 +1,52 @@
+-- Steps along the axes of a grid, and streaming, which wraps on both.
+-- Assumes nothing.
+use mathlib.Core.Bool.{Bool, cond}
+use Prim.Native.Nat.{ℕ, zero, suc, _+_, _-_, _%_}
+use lib.IntN.{ℤ, pos, negsuc}
+use Rattle.lattice.specs.Lattice.{Axis, X, Y, E, OPP}
+use Rattle.grid.specs.Grid.{Field}
+
+-- a component of a direction as a step along its axis: 0, +1 or -1
+pub data Step : Type 0 where
+  stay up down : Step
+
+abbrev pub stepOf : ℤ → Step
+stepOf (pos zero) = stay
+stepOf (pos (suc n)) = up
+stepOf (negsuc n) = down
+
+-- the step of direction i along an axis
+abbrev pub part : Axis → ℕ → Step
+part a i = stepOf (E i a)
+
+-- the step back
+abbrev pub against : Step → Step
+against stay = stay
+against up = down
+against down = up
+
+-- as many places on as come to a step around a side of n
+abbrev pub far : Step → ℕ → ℕ
+far stay n = 0
+far up n = 1
+far down n = n - 1
+
+-- the coordinate k, s places on around a side of n
+unfoldable pub turn : ℕ → ℕ → ℕ → ℕ
+turn n s k = (k + s) % n
+
+-- the coordinate k + e, wrapped
+abbrev pub moved : Step → ℕ → ℕ → ℕ
+moved e n k = turn n (far e n) k
+
+-- STREAMING: what stands at (x, y) came from (x - ex, y - ey), wrapped on both axes
+unfoldable pub streamed : ℕ → ℕ → Field → Field
+streamed nx ny p x y i = p (moved (against (part X i)) nx x) (moved (against (part Y i)) ny y) i
+
+-- ---- the travel turned round: opposite directions change places
+
+abbrev pub facing : Bool → ℕ → ℕ
+facing back i = cond back (OPP i) i
+
+abbrev pub turned : Bool → Field → Field
+turned back p x y i = p x y (facing back i)

@@ -1,0 +1,43 @@
+-- Streaming with faces: the rule, and the outcome of the operation.
+-- Assumes nothing.
+use mathlib.Core.Bool.{Bool}
+use mathlib.Core.List.{List}
+use Prim.Native.Nat.{ℕ}
+use lib.ListN.{length}
+use Rattle.lattice.specs.Lattice.{X, Y}
+use Rattle.grid.specs.Grid.{Field, fieldOf, bufferOf}
+use Rattle.settings.specs.declared.Settings.{Settings}
+use Rattle.settings.specs.Refusals.{refusal, streamWithFaces}
+use Rattle.settings.specs.Outcome.{Written, written}
+use Rattle.streaming.specs.Steps.{streamed, turned}
+use Rattle.streaming.specs.Faces.{min, max, face}
+
+-- the faces in their order, from the post-collision field and the field before them: a later face writes over an earlier one
+abbrev pub bounded : Settings → Field → Field → Field
+bounded s post f0 =
+    let nx = s .nx in
+    let ny = s .ny in
+    let f1 = face X min (s .«x_min») nx ny post f0 in
+    let f2 = face X max (s .«x_max») nx ny post f1 in
+    let f3 = face Y min (s .«y_min») nx ny post f2 in
+    face Y max (s .«y_max») nx ny post f3
+
+-- STREAMING WITH FACES: streaming, then x min, x max, y min, y max
+unfoldable pub next : Settings → Field → Field
+next s post = bounded s post (streamed (s .nx) (s .ny) post)
+
+-- the next population buffer
+unfoldable pub nextBuffer : Settings → List ℕ → List ℕ
+nextBuffer s post = bufferOf (s .nx) (s .ny) (next s (fieldOf (s .nx) (s .ny) post))
+
+-- what the code carries: the next population buffer, and with the travel turned round the same of the field with opposite
+-- directions in each other's place, put back
+unfoldable pub carried : Bool → Settings → List ℕ → List ℕ
+carried back s b =
+    let nx = s .nx in
+    let ny = s .ny in
+    bufferOf nx ny (turned back (next s (turned back (fieldOf nx ny b))))
+
+-- the operation's outcome: the number, and the next population buffer; refused, the population buffer as it was
+abbrev pub streamedWithFaces : Settings → List ℕ → List ℕ → Written
+streamedWithFaces s post f = written (refusal (streamWithFaces s (length post) (length f))) f (nextBuffer s post)

@@ -1,0 +1,520 @@
+// Streaming with six kinds of faces.
+use settings::Face;
+use settings::Settings;
+ghost use mathlib.Core.Path.{_≡_};
+ghost use mathlib.Core.Bool.{true, false};
+ghost use Prim.Native.Nat.{_+_, _*_, _%_, _≤_, _<_};
+ghost use lib.ListN.{length, getD, set};
+ghost use lib.Ieee.{binary64, ofInt};
+ghost use Rattle.number.specs.Number.{valueOf, patternOf, c6, _⊕_, _⊗_};
+ghost use Rattle.lattice.specs.Lattice.{ex, ey, W, OPP};
+ghost use Rattle.lattice.specs.Lookup.{axisOf, mirror};
+ghost use Rattle.grid.specs.Grid.{Grid, fieldOf, Same, Holds, mostCells};
+ghost use Rattle.grid.specs.Writes.{Wrote};
+ghost use Rattle.settings.specs.Outcome.{Written};
+ghost use Rattle.settings.specs.Tests.{drives, driven};
+ghost use Rattle.streaming.specs.Steps as Steps;
+ghost use Rattle.streaming.specs.Steps.{part, against, far, turn, turned, streamed};
+ghost use Rattle.streaming.specs.Rows.{turnedPlane};
+ghost use Rattle.streaming.specs.Faces as Faces;
+ghost use Rattle.streaming.specs.Faces.{moving, pushed, walled, normal, tangent, known, zouHe, zouHeAt};
+ghost use Rattle.streaming.specs.Lines as Lines;
+ghost use Rattle.streaming.specs.Lines.{sideOf, frameOf, lineOf, spot, Inside, planesOf, entriesOf, entriesAt, alone, Small, Apart, Sound, Changed, Along, velocityOf};
+ghost use Rattle.streaming.specs.Streaming.{bounded, carried, streamedWithFaces};
+
+// ---- streaming
+
+// The direction that stands in i's place: i itself, or where the travel is turned round, its opposite.
+fn facing(back: bool, i: usize) -> usize
+    requires { ⌜ i < 9 ⌝ }
+    ensures { λ r. ⌜ (r ≡ Steps.facing back i) × (r < 9) ⌝ }
+{
+    if back { lattice::opposite(i) } else { i }
+}
+
+// Copies a row of n entries, turned by s: entry k is the source's entry (k + s) mod n, so that the row is two straight copies.
+fn row(src: &[u64], from: usize, dst: &mut [u64], to: usize, n: usize, s: usize)
+    requires { ⌜ (s ≤ n) × (from + n ≤ length (now src)) × (to + n ≤ length (now dst)) ⌝ }
+    ensures { λ _. ⌜ Wrote (now (dst .entry)) (now (dst .exit)) to n (λ k. getD (now (src .entry)) (from + turn n s k) 0) ⌝ }
+{
+    let m = n - s;
+    grid::copy(src, from + s, dst, to, m);
+    grid::copy(src, from, dst, to + m, s);
+}
+
+// A number below two turns around a side of n, as a place of the side.
+fn wrap(n: usize, k: usize) -> usize
+    requires { ⌜ k < n + n ⌝ }
+    ensures { λ r. ⌜ (r ≡ k % n) × (r < n) ⌝ }
+{
+    if k < n { k } else { k - n }
+}
+
+// Copies a plane of ny rows of nx entries, which starts at base in both buffers, turned by sx and sy.
+fn plane(nx: usize, ny: usize, sx: usize, sy: usize, base: usize, src: &[u64], dst: &mut [u64])
+    requires { ⌜ Grid nx ny ⌝ }
+    requires { ⌜ (sx ≤ nx) × (sy ≤ ny) × (base + nx * ny ≤ length (now src)) × (base + nx * ny ≤ length (now dst)) ⌝ }
+    ensures { λ _. ⌜ Wrote (now (dst .entry)) (now (dst .exit)) base (nx * ny) (turnedPlane nx ny sx sy base (now (src .entry))) ⌝ }
+{
+    let mut y = 0;
+    while y < ny {
+        let from = wrap(ny, y + sy);
+        row(src, base + from * nx, dst, base + y * nx, nx, sx);
+        y += 1;
+    }
+}
+
+// One step of direction i back along an axis (0 for x, 1 for y), as places on around the side of n.
+fn step_back(i: usize, axis: usize, n: usize) -> usize
+    requires { ⌜ (i < 9) × (axis < 2) × (1 ≤ n) ⌝ }
+    ensures { λ r. ⌜ (r ≡ far (against (part (axisOf axis) i)) n) × (r ≤ n) ⌝ }
+{
+    let e = lattice::E[i][axis];
+    if e == 0 {
+        0
+    } else if e == 1 {
+        n - 1
+    } else {
+        1
+    }
+}
+
+// Streaming: the plane of each direction goes on by one step of it, wrapped on both axes. Turned round, it goes by its opposite's.
+fn stream(back: bool, nx: usize, ny: usize, src: &[u64], dst: &mut [u64])
+    requires { ⌜ Grid nx ny ⌝ }
+    requires { ⌜ (length (now src) ≡ 9 * (nx * ny)) × (length (now dst) ≡ 9 * (nx * ny)) ⌝ }
+    ensures size { λ _. ⌜ length (now (dst .exit)) ≡ length (now (dst .entry)) ⌝ }
+    ensures moves { λ _. ⌜ Same nx ny (turned back (fieldOf nx ny (now (dst .exit)))) (streamed nx ny (turned back (fieldOf nx ny (now (src .entry))))) ⌝ }
+{
+    let n = nx * ny;
+    let mut j = 0;
+    while j < 9 {
+        let i = facing(back, j);
+        let sx = step_back(i, 0, nx);
+        let sy = step_back(i, 1, ny);
+        plane(nx, ny, sx, sy, j * n, src, dst);
+        j += 1;
+    }
+}
+
+// ---- where a face is
+
+// The inward normal and the tangent of a face. An axis is 0 for x and 1 for y, a side 0 for min and 1 for max.
+struct Frame {
+    n0: i32,
+    n1: i32,
+    t0: i32,
+    t1: i32,
+}
+
+fn sign(side: usize) -> i32
+    ensures { λ r. ⌜ r ≡ Faces.sign (sideOf side) ⌝ }
+{
+    if side == 0 { 1 } else { -1 }
+}
+
+fn frame_of(axis: usize, side: usize) -> Frame
+    ensures { λ r. ⌜ r ≡ frameOf (axisOf axis) (sideOf side) ⌝ }
+{
+    let s = sign(side);
+    if axis == 0 {
+        Frame {
+            n0: s,
+            n1: 0,
+            t0: 0,
+            t1: 1,
+        }
+    } else {
+        Frame {
+            n0: 0,
+            n1: s,
+            t0: 1,
+            t1: 0,
+        }
+    }
+}
+
+// The directions n, t, -t, n + t and n - t of a face.
+struct Names {
+    n: usize,
+    t: usize,
+    tm: usize,
+    np: usize,
+    nm: usize,
+}
+
+fn names_of(axis: usize, side: usize) -> Names
+    ensures { λ r. ⌜ (r ≡ Faces.names (axisOf axis) (sideOf side)) × Sound r ⌝ }
+{
+    let g = frame_of(axis, side);
+    let n0 = g.n0;
+    let n1 = g.n1;
+    let t0 = g.t0;
+    let t1 = g.t1;
+    Names {
+        n: lattice::dir_index(n0, n1).direction,
+        t: lattice::dir_index(t0, t1).direction,
+        tm: lattice::dir_index(-t0, -t1).direction,
+        np: lattice::dir_index(n0 + t0, n1 + t1).direction,
+        nm: lattice::dir_index(n0 - t0, n1 - t1).direction,
+    }
+}
+
+// The cells of a face: cell k stands at start + k·stride.
+struct Line {
+    start: usize,
+    stride: usize,
+    count: usize,
+}
+
+fn line_of(axis: usize, side: usize, nx: usize, ny: usize) -> Line
+    requires { ⌜ Grid nx ny ⌝ }
+    ensures { λ r. ⌜ (r ≡ lineOf (axisOf axis) (sideOf side) nx ny) × Inside r (nx * ny) ⌝ }
+{
+    if axis == 0 {
+        Line {
+            start: if side == 0 { 0 } else { nx - 1 },
+            stride: nx,
+            count: ny,
+        }
+    } else {
+        Line {
+            start: if side == 0 { 0 } else { (ny - 1) * nx },
+            stride: 1,
+            count: nx,
+        }
+    }
+}
+
+// ---- the three directions that come in through a face
+
+// Their planes in a buffer.
+struct Planes {
+    n: usize,
+    np: usize,
+    nm: usize,
+}
+
+// Their entries at a cell.
+struct Entries {
+    n: u64,
+    np: u64,
+    nm: u64,
+}
+
+fn incoming(back: bool, d: Names) -> Planes
+    requires { ⌜ Sound d ⌝ }
+    ensures { λ r. ⌜ (r ≡ planesOf (Steps.facing back) d) × Apart r ⌝ }
+{
+    Planes {
+        n: facing(back, d.n),
+        np: facing(back, d.np),
+        nm: facing(back, d.nm),
+    }
+}
+
+// The opposites.
+fn opposites(back: bool, d: Names) -> Planes
+    requires { ⌜ Sound d ⌝ }
+    ensures { λ r. ⌜ (r ≡ planesOf (λ i. Steps.facing back (OPP i)) d) × Small r ⌝ }
+{
+    Planes {
+        n: facing(back, lattice::opposite(d.n)),
+        np: facing(back, lattice::opposite(d.np)),
+        nm: facing(back, lattice::opposite(d.nm)),
+    }
+}
+
+// The directions mirrored along an axis.
+fn mirrors(back: bool, axis: usize, d: Names) -> Planes
+    requires { ⌜ Sound d ⌝ }
+    ensures { λ r. ⌜ (r ≡ planesOf (λ i. Steps.facing back (mirror (axisOf axis) i)) d) × Small r ⌝ }
+{
+    Planes {
+        n: facing(back, lattice::mirror_index(d.n, axis)),
+        np: facing(back, lattice::mirror_index(d.np, axis)),
+        nm: facing(back, lattice::mirror_index(d.nm, axis)),
+    }
+}
+
+// Entry i of cell c of n, every bit of it.
+fn entry(b: &[u64], n: usize, c: usize, i: usize) -> u64
+    requires { ⌜ Holds (now b) n c × (i < 9) ⌝ }
+    ensures { λ r. ⌜ r ≡ getD (now (b .entry)) (c + i * n) 0 ⌝ }
+{
+    b[c + i * n]
+}
+
+// Makes v entry i of cell c of n.
+fn set_entry(f: &mut [u64], n: usize, c: usize, i: usize, v: u64)
+    requires { ⌜ Holds (now f) n c × (i < 9) ⌝ }
+    ensures stored { λ _. ⌜ now (f .exit) ≡ set (now (f .entry)) (c + i * n) v ⌝ }
+    ensures holds { λ _. ⌜ Holds (now (f .exit)) n c ⌝ }
+{
+    f[c + i * n] = v;
+}
+
+// The entries of cell c of n in three planes.
+fn entries_at(b: &[u64], n: usize, c: usize, p: Planes) -> Entries
+    requires { ⌜ Holds (now b) n c × Small p ⌝ }
+    ensures { λ r. ⌜ r ≡ entriesAt (now (b .entry)) n c p ⌝ }
+{
+    Entries {
+        n: entry(b, n, c, p.n),
+        np: entry(b, n, c, p.np),
+        nm: entry(b, n, c, p.nm),
+    }
+}
+
+// Makes v the entries of cell c of n in three planes.
+fn put(f: &mut [u64], n: usize, c: usize, p: Planes, v: Entries)
+    requires { ⌜ Holds (now f) n c × Apart p ⌝ }
+    ensures { λ _. ⌜ Changed (now (f .entry)) (now (f .exit)) n c p v ⌝ }
+{
+    set_entry(f, n, c, p.n, v.n);
+    set_entry(f, n, c, p.np, v.np);
+    set_entry(f, n, c, p.nm, v.nm);
+}
+
+// ---- the kinds of faces
+
+// Takes the entries of the planes `to` from the same cell's post-collision entries in the planes `from`.
+fn reflect(line: Line, n: usize, to: Planes, from: Planes, post: &[u64], f: &mut [u64])
+    requires { ⌜ Inside line n × Apart to × Small from ⌝ }
+    requires { ⌜ (length (now post) ≡ 9 * n) × (length (now f) ≡ 9 * n) ⌝ }
+    ensures { λ _. ⌜ Along (now (f .entry)) (now (f .exit)) n line to (line .count) (λ j. entriesAt (now (post .entry)) n (spot line j) from) ⌝ }
+{
+    let mut k = 0;
+    while k < line.count {
+        let c = line.start + k * line.stride;
+        put(f, n, c, to, entries_at(post, n, c, from));
+        k += 1;
+    }
+}
+
+// The opposite entry b as direction i takes it from a wall that moves: 6·W·ρw·(e·u) more.
+fn push(i: usize, b: u64, rho: f64, u: f64, v: f64) -> u64
+    requires { ⌜ i < 9 ⌝ }
+    ensures { λ r. ⌜ r ≡ patternOf (valueOf b ⊕ c6 ⊗ W i ⊗ rho ⊗ (ex i ⊗ u ⊕ ey i ⊗ v)) ⌝ }
+{
+    let eu = lattice::e_x(i) * u + lattice::e_y(i) * v;
+    number::pattern(number::value(b) + 6.0 * lattice::weight(i) * rho * eu)
+}
+
+fn push_entries(d: Names, u: f64, v: f64, n: usize, c: usize, post: &[u64]) -> Entries
+    requires { ⌜ Holds (now post) n c × Sound d ⌝ }
+    ensures { λ r. ⌜ r ≡ entriesOf (pushed u v (alone false (now (post .entry)) n c) 0 0) d ⌝ }
+{
+    let rho_w = cell::density(grid::gather(post, n, c));
+    let b = entries_at(post, n, c, opposites(false, d));
+    Entries {
+        n: push(d.n, b.n, rho_w, u, v),
+        np: push(d.np, b.np, rho_w, u, v),
+        nm: push(d.nm, b.nm, rho_w, u, v),
+    }
+}
+
+fn moving_wall(line: Line, n: usize, d: Names, u: f64, v: f64, post: &[u64], f: &mut [u64])
+    requires { ⌜ Inside line n × Sound d ⌝ }
+    requires { ⌜ (length (now post) ≡ 9 * n) × (length (now f) ≡ 9 * n) ⌝ }
+    ensures { λ _. ⌜ Along (now (f .entry)) (now (f .exit)) n line (planesOf (Steps.facing false) d) (line .count) (λ j. entriesOf (pushed u v (alone false (now (post .entry)) n (spot line j)) 0 0) d) ⌝ }
+{
+    let to = incoming(false, d);
+    let mut k = 0;
+    while k < line.count {
+        let c = line.start + k * line.stride;
+        put(f, n, c, to, push_entries(d, u, v, n, c, post));
+        k += 1;
+    }
+}
+
+// Halfway bounce-back, with wall motion unless both speeds equal 0. Only at rest may the travel be turned round.
+fn bounce_back(
+    line: Line,
+    n: usize,
+    d: Names,
+    back: bool,
+    u: f64,
+    v: f64,
+    post: &[u64],
+    f: &mut [u64],
+)
+    requires { ⌜ Inside line n × Sound d ⌝ }
+    requires { ⌜ (length (now post) ≡ 9 * n) × (length (now f) ≡ 9 * n) ⌝ }
+    requires { ⌜ (back ≡ true → moving u v ≡ false) ⌝ }
+    ensures { λ _. ⌜ Along (now (f .entry)) (now (f .exit)) n line (planesOf (Steps.facing back) d) (line .count) (λ j. entriesOf (walled u v (alone back (now (post .entry)) n (spot line j)) 0 0) d) ⌝ }
+{
+    if (u != 0.0) | (v != 0.0) {
+        moving_wall(line, n, d, u, v, post, f);
+    } else {
+        reflect(line, n, incoming(back, d), opposites(back, d), post, f);
+    }
+}
+
+// Specular reflection: a free-slip or symmetry plane across an axis.
+fn specular(line: Line, n: usize, d: Names, back: bool, axis: usize, post: &[u64], f: &mut [u64])
+    requires { ⌜ Inside line n × Sound d ⌝ }
+    requires { ⌜ (length (now post) ≡ 9 * n) × (length (now f) ≡ 9 * n) ⌝ }
+    ensures { λ _. ⌜ Along (now (f .entry)) (now (f .exit)) n line (planesOf (Steps.facing back) d) (line .count) (λ j. entriesOf (λ i. alone back (now (post .entry)) n (spot line j) 0 0 (mirror (axisOf axis) i)) d) ⌝ }
+{
+    reflect(line, n, incoming(back, d), mirrors(back, axis, d), post, f);
+}
+
+// What a Zou-He face prescribes: the velocity along n and t, or the density.
+enum ZouHe {
+    Velocity(f64, f64),
+    Pressure(f64),
+}
+
+// The density, and the velocity along n and t.
+struct Prescribed {
+    rho: f64,
+    un: f64,
+    ut: f64,
+}
+
+// From the entries along the face plus twice the outgoing ones.
+fn prescribe(kind: ZouHe, sum: f64) -> Prescribed
+    ensures { λ r. ⌜ r ≡ Lines.prescribed kind sum ⌝ }
+{
+    match kind {
+        ZouHe::Velocity(un, ut) => Prescribed {
+            rho: sum / (1.0 - un),
+            un,
+            ut,
+        },
+        ZouHe::Pressure(rho) => Prescribed {
+            rho,
+            un: 1.0 - sum / rho,
+            ut: 0.0,
+        },
+    }
+}
+
+// The three entries that come in at a cell that stands at f.
+fn zou_he_entries(d: Names, kind: ZouHe, f: [f64; 9]) -> Entries
+    requires { ⌜ Sound d ⌝ }
+    ensures { λ r. ⌜ r ≡ entriesOf (λ i. patternOf (zouHe d (Lines.prescribed kind (known d f)) f i)) d ⌝ }
+{
+    let i_t = d.t;
+    let i_tm = d.tm;
+    let f_t = f[i_t];
+    let f_tm = f[i_tm];
+    let f_on = f[lattice::opposite(d.n)];
+    let f_onp = f[lattice::opposite(d.np)];
+    let f_onm = f[lattice::opposite(d.nm)];
+    let sum_parallel = f[0] + f_t + f_tm;
+    let sum_outgoing = f_on + f_onp + f_onm;
+    let w = prescribe(kind, sum_parallel + 2.0 * sum_outgoing);
+    // the transverse momentum that the entries along the face carry
+    let nt = 0.5 * (f_t - f_tm);
+    Entries {
+        n: number::pattern(f_on + 2.0 / 3.0 * w.rho * w.un),
+        np: number::pattern(f_onp + w.rho * w.un / 6.0 + 0.5 * w.rho * w.ut - nt),
+        nm: number::pattern(f_onm + w.rho * w.un / 6.0 - 0.5 * w.rho * w.ut + nt),
+    }
+}
+
+// Zou-He velocity or pressure.
+fn zou_he(line: Line, n: usize, d: Names, kind: ZouHe, f: &mut [u64])
+    requires { ⌜ Inside line n × Sound d × (length (now f) ≡ 9 * n) ⌝ }
+    ensures { λ _. ⌜ Along (now (f .entry)) (now (f .exit)) n line (planesOf (Steps.facing false) d) (line .count) (λ j. entriesOf (zouHeAt d (Lines.prescribed kind) (alone false (now (f .entry)) n (spot line j)) 0 0) d) ⌝ }
+{
+    let to = incoming(false, d);
+    let mut k = 0;
+    while k < line.count {
+        let c = line.start + k * line.stride;
+        put(f, n, c, to, zou_he_entries(d, kind, grid::gather(f, n, c)));
+        k += 1;
+    }
+}
+
+// (u, v) along the vector (a, b).
+fn along(u: f64, v: f64, a: i32, b: i32) -> f64
+    ensures { λ r. ⌜ r ≡ u ⊗ ofInt binary64 a ⊕ v ⊗ ofInt binary64 b ⌝ }
+{
+    u * a as f64 + v * b as f64
+}
+
+// What a velocity face prescribes: (u, v) along its normal and its tangent.
+fn velocity(axis: usize, side: usize, u: f64, v: f64) -> ZouHe
+    ensures { λ r. ⌜ r ≡ velocityOf (axisOf axis) (sideOf side) u v ⌝ }
+{
+    let g = frame_of(axis, side);
+    ZouHe::Velocity(along(u, v, g.n0, g.n1), along(u, v, g.t0, g.t1))
+}
+
+// ---- one face, and all four
+
+// Applies one face. Only faces that drive no flow have a way back.
+fn face(
+    axis: usize,
+    side: usize,
+    kind: Face,
+    back: bool,
+    nx: usize,
+    ny: usize,
+    post: &[u64],
+    f: &mut [u64],
+)
+    requires { ⌜ Grid nx ny ⌝ }
+    requires { ⌜ (length (now post) ≡ 9 * (nx * ny)) × (length (now f) ≡ 9 * (nx * ny)) ⌝ }
+    requires { ⌜ (back ≡ true → drives kind ≡ false) ⌝ }
+    ensures size { λ _. ⌜ length (now (f .exit)) ≡ length (now (f .entry)) ⌝ }
+    ensures bounds { λ _. ⌜ Same nx ny (turned back (fieldOf nx ny (now (f .exit)))) (Faces.face (axisOf axis) (sideOf side) kind nx ny (turned back (fieldOf nx ny (now (post .entry)))) (turned back (fieldOf nx ny (now (f .entry))))) ⌝ }
+{
+    let n = nx * ny;
+    let line = line_of(axis, side, nx, ny);
+    let d = names_of(axis, side);
+    match kind {
+        Face::Periodic => {}
+        Face::NoSlip => bounce_back(line, n, d, back, 0.0, 0.0, post, f),
+        Face::MovingWall(u, v) => bounce_back(line, n, d, back, u, v, post, f),
+        Face::Symmetry => specular(line, n, d, back, axis, post, f),
+        Face::Velocity(u, v) => zou_he(line, n, d, velocity(axis, side, u, v), f),
+        Face::Pressure(rho) => zou_he(line, n, d, ZouHe::Pressure(rho), f),
+    }
+}
+
+// Applies the faces: x min, x max, y min, y max. A later face writes over an earlier one, so y settles corners.
+fn apply_boundaries(s: Settings, back: bool, post: &[u64], f: &mut [u64])
+    requires { ⌜ Grid (s .nx) (s .ny) ⌝ }
+    requires { ⌜ (length (now post) ≡ 9 * (s .nx * s .ny)) × (length (now f) ≡ 9 * (s .nx * s .ny)) ⌝ }
+    requires { ⌜ (back ≡ true → driven s ≡ false) ⌝ }
+    ensures size { λ _. ⌜ length (now (f .exit)) ≡ length (now (f .entry)) ⌝ }
+    ensures bounds { λ _. ⌜ Same (s .nx) (s .ny) (turned back (fieldOf (s .nx) (s .ny) (now (f .exit)))) (bounded s (turned back (fieldOf (s .nx) (s .ny) (now (post .entry)))) (turned back (fieldOf (s .nx) (s .ny) (now (f .entry))))) ⌝ }
+{
+    let x_min = s.x_min;
+    let x_max = s.x_max;
+    let y_min = s.y_min;
+    let y_max = s.y_max;
+    face(0, 0, x_min, back, s.nx, s.ny, post, f);
+    face(0, 1, x_max, back, s.nx, s.ny, post, f);
+    face(1, 0, y_min, back, s.nx, s.ny, post, f);
+    face(1, 1, y_max, back, s.nx, s.ny, post, f);
+}
+
+// ---- streaming with faces
+
+// Streams post into f and applies the faces. Turned round, opposite directions have changed places in both buffers.
+pub fn carry(s: Settings, back: bool, post: &[u64], f: &mut [u64])
+    requires { ⌜ Grid (s .nx) (s .ny) ⌝ }
+    requires { ⌜ (length (now post) ≡ 9 * (s .nx * s .ny)) × (length (now f) ≡ 9 * (s .nx * s .ny)) ⌝ }
+    requires { ⌜ (back ≡ true → driven s ≡ false) ⌝ }
+    ensures { λ _. ⌜ now (f .exit) ≡ carried back s (now (post .entry)) ⌝ }
+{
+    stream(back, s.nx, s.ny, post, f);
+    apply_boundaries(s, back, post, f);
+}
+
+// Streaming with faces: reads the post-collision buffer and makes f the next populations.
+pub fn stream_with_faces(s: Settings, post: &[u64], f: &mut [u64]) -> u32
+    ensures { λ r. ⌜ _≡_ {A = Written} (record { number = r; buffer = now (f .exit) }) (streamedWithFaces s (now (post .entry)) (now (f .entry))) ⌝ }
+{
+    let number = settings::stream_with_faces_refusal(s, post.len(), f.len());
+    if number != 0 {
+        return number;
+    }
+    carry(s, false, post, f);
+    0
+}
