@@ -4,7 +4,7 @@ pub mod Inverse
 pub mod Losing
 pub mod Criterion
 pub mod Least
-pub mod Reverse
+pub mod Backward
 pub mod Whole
 pub mod Outcomes
 pub mod One

@@ -14,11 +14,10 @@ use Rattle.settings.specs.Refusals.{refusal, lossless, reverse}
 use Rattle.settings.specs.Outcome.{Written}
 use Rattle.settings.proofs.Laws.{known}
 use Rattle.settings.proofs.Outcome.{answered, refused}
-use Rattle.streaming.specs.Steps.{turned}
-use Rattle.streaming.specs.Streaming.{next, nextBuffer}
+use Rattle.streaming.specs.Streaming.{nextBuffer, carried}
 use Rattle.lossless.specs.Lossless.{reverseBuffer, lowest, lossyAt, numberOf, losslessOf, Says, reversedOf}
 use Rattle.lossless.specs.declared.Answer.the-variants as The
-use Rattle.lossless.proofs.Reverse.{reverse-gives, reverse-only, reverse-carried}
+use Rattle.lossless.proofs.Backward.{reverse-gives, reverse-only, reverse-is}
 use Rattle.lossless.proofs.Whole.{exactly-when, is-lowest}
 
 -- ---- the question
@@ -62,11 +61,8 @@ module _ (s : Settings) (f post : List ℕ) (z : refusal (reverse s (length f) (
         λ h. ap (nextBuffer s) (h ∙ sym is) ∙ reverse-gives s calm whole f (k .1 .0 .size),
       )
 
-  -- what the code leaves: f carried on with opposite directions swapped before and after
-  pub reverse-done : (left : List ℕ) → length left ≡ length post
-      → Same (s .nx) (s .ny) (turned true (fieldOf (s .nx) (s .ny) left)) (next s (turned true (fieldOf (s .nx) (s .ny) f)))
-      → _≡_ {A = Written} (record { number = 0; buffer = left }) (reversedOf s f post)
-  reverse-done left size same =
+  -- what the code leaves: f carried back
+  pub reverse-done : (left : List ℕ) → left ≡ carried true s f → _≡_ {A = Written} (record { number = 0; buffer = left }) (reversedOf s f post)
+  reverse-done left e =
       let k = known (reverse s (length f) (length post)) z in
-      answered _ refl z
-      (ap (λ (b : List ℕ). record { number = 0; buffer = b }) (reverse-carried s (k .1 .1 .1 .1 .0) left f (size ∙ k .1 .1 .0 .size) same))
+      answered _ refl z (ap (λ (b : List ℕ). record { number = 0; buffer = b }) (e ∙ reverse-is s (k .1 .1 .1 .1 .0) f))

@@ -21,7 +21,7 @@ use Rattle.lossless.specs.Lossless.{Buffer, Lossless, Kept, Lowest, lowe
 use Rattle.lossless.proofs.Inverse.{source-target}
 use Rattle.lossless.proofs.Losing.{never}
 use Rattle.lossless.proofs.Least.{Least, is-least}
-use Rattle.lossless.proofs.Reverse.{by-entry, next-at, reverse-only}
+use Rattle.lossless.proofs.Backward.{by-entry, next-at, reverse-only}
 
 -- ---- two buffers that differ at one index
 

@@ -4,7 +4,8 @@ use settings::Settings;
 ghost use mathlib.Core.Path.{_≡_};
 ghost use Prim.Native.Nat.{_<_};
 ghost use Rattle.lossless.specs.Lossless as Lossless;
-ghost use Rattle.lossless.specs.Lossless.{lossyAt, losslessOf};
+ghost use Rattle.lossless.specs.Lossless.{lossyAt, losslessOf, reversedOf};
+ghost use Rattle.settings.specs.Outcome.{Written};
 
 // What the lossless question answers. A lossy answer names the lowest entry that is lost, by x, y and direction.
 pub enum Answer {
@@ -59,4 +60,17 @@ pub fn lossless(s: Settings) -> Answer
         return lowest(s);
     }
     Answer::Lossless
+}
+
+// Leaves in post the one post-collision buffer from which streaming with these faces gives f.
+pub fn reverse(s: Settings, f: &[u64], post: &mut [u64]) -> u32
+    ensures { λ r. ⌜ _≡_ {A = Written} (record { number = r; buffer = now (post .exit) }) (reversedOf s (now (f .entry)) (now (post .entry))) ⌝ }
+{
+    let number = settings::reverse_refusal(s, f.len(), post.len());
+    if number != 0 {
+        return number;
+    }
+    // the same carrying, with the travel turned round
+    streaming::carry(s, true, f, post);
+    0
 }

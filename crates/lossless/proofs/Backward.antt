@@ -10,7 +10,7 @@ use Rattle.grid.proofs.Fields.{field-of-buffer, is-buffer, same-buffer}
 use Rattle.settings.specs.declared.Settings.{Settings}
 use Rattle.settings.specs.Tests.{driven, lossy}
 use Rattle.streaming.specs.Steps.{turned}
-use Rattle.streaming.specs.Streaming.{next, nextBuffer}
+use Rattle.streaming.specs.Streaming.{next, nextBuffer, carried}
 use Rattle.streaming.specs.Source.{Entry, entry, On, indexOf, held, opposite, source, target}
 use Rattle.streaming.proofs.Source.{copied, opposite-on, opposite-opposite, source-on, target-on, turned-around}
 use Rattle.lossless.specs.Lossless.{reversed, reverseBuffer}
@@ -59,22 +59,10 @@ module _ (s : Settings) (calm : driven s ≡ false) where
 
   -- ---- what the code carries: f with opposite directions swapped, carried on, and swapped back, is the reverse
 
-  pub reverse-turned : (f : List ℕ) → Same (s .nx) (s .ny) (turned true (next s (turned true (field f)))) (reversed s (field f))
+  reverse-turned : (f : List ℕ) → Same (s .nx) (s .ny) (turned true (next s (turned true (field f)))) (reversed s (field f))
   unfolding reversed
   reverse-turned f = by-entry (s .nx) (s .ny) _ _ (λ e on. turned-around s e on calm (field f))
 
-  pub reverse-is : (f : List ℕ) → bufferOf (s .nx) (s .ny) (turned true (next s (turned true (field f)))) ≡ reverseBuffer s f
-  unfolding reverseBuffer
+  pub reverse-is : (f : List ℕ) → carried true s f ≡ reverseBuffer s f
+  unfolding reverseBuffer carried
   reverse-is f = same-buffer (s .nx) (s .ny) _ _ (reverse-turned f)
-
-  -- and so is a buffer of the size that holds what is carried
-  pub reverse-carried : (post f : List ℕ) → length post ≡ 9 * (s .nx * s .ny)
-      → Same (s .nx) (s .ny) (turned true (field post)) (next s (turned true (field f))) → post ≡ reverseBuffer s f
-  unfolding reverseBuffer
-  reverse-carried post f size same =
-      is-buffer (s .nx) (s .ny) post (reversed s (field f)) size
-      (by-entry (s .nx) (s .ny) (field post) (reversed s (field f))
-      (λ e on.
-      ap (held (field post)) (sym (opposite-opposite (s .nx) (s .ny) e on))
-      ∙ at-entry same (opposite e) (opposite-on (s .nx) (s .ny) e on)
-      ∙ at-entry (reverse-turned f) e on))
