@@ -22,7 +22,7 @@ use Rattle.cell.specs.Cell.{alongAt, equilibriumAt}
 abbrev pub zeroOf : Bool → Float
 zeroOf s = cond s (valueOf 0x8000_0000_0000_0000) c0
 
-pub Zero : Float → Type 0
+abbrev pub Zero : Float → Type 0
 Zero x = (s : Bool) × (x ≡ zeroOf s)
 
 zero-fits : (s : Bool) → T (fits binary64 (fin s 0 (pos 0)))
@@ -34,7 +34,7 @@ not-level a b r p z q = lt-irrefl 0 (subst (λ (x : ℕ). 0 < x) (eqb→eq a b (
 
 -- an f64 that equals 0 is one of the two
 pub equal-zero : (x : Float) → T (fits binary64 x) → eq x c0 ≡ true → Zero x
-unfolding Zero eq ofBits
+unfolding eq ofBits
 equal-zero nan h e = absurd (subst T (sym e) tt)
 equal-zero (inf s) h e = absurd (subst T (sym e) tt)
 equal-zero (fin true zero e) h q = (true, same-number binary64 true 0 e 0 (pos 0) h (zero-fits true) (simp zero-mul))
@@ -58,7 +58,6 @@ bracket-table false true = refl
 bracket-table false false = refl
 
 bracket-is-one : (i : ℕ) (ux uy : Float) → i < 9 → Zero ux → Zero uy → bracket i ux uy ≡ c1
-unfolding Zero
 bracket-is-one i ux uy h (s, a) (t, b) = rw (a, b) (all-nine (λ k. bracket k (zeroOf s) (zeroOf t)) (λ k. c1) (bracket-table s t) i h)
 
 -- with both components zero, of either sign, and any density

@@ -20,6 +20,9 @@ use Rattle.cell.specs.declared.Collision.the-variants.{Bgk, Mrt, Trt}
 unfoldable pub densityOf : List Float → Float
 densityOf f = sumTo (at f) 9
 
+unfoldable pub sumOfProducts : List Float → List Float → Float
+sumOfProducts a b = sumTo (λ i. at a i ⊗ at b i) 9
+
 unfoldable pub momentumX : List Float → Float
 momentumX f = sumTo (λ i. at f i ⊗ ex i) 9
 
@@ -141,15 +144,11 @@ trtSourced r kept src = nine (trtSourcedAt r kept src)
 unfoldable pub trt : TrtRates → List Float → List Float → List Float → List Float
 trt r f feq src = trtSourced r (trtRelaxed r f feq) src
 
--- a moment: a row of M with nine numbers
-unfoldable pub momentOf : List Float → List Float → Float
-momentOf row f = sumTo (λ i. at row i ⊗ at f i) 9
-
--- the moment after collision
+-- a moment after collision: a row of M with the populations, relaxed
 unfoldable pub relaxedBy : Float → List Float → List Float → List Float → List Float → Float
 relaxedBy rate row f feq src =
-    let m = momentOf row f in
-    m ⊖ rate ⊗ (m ⊖ momentOf row feq) ⊕ (c1 ⊖ c½ ⊗ rate) ⊗ momentOf row src
+    let m = sumOfProducts row f in
+    m ⊖ rate ⊗ (m ⊖ sumOfProducts row feq) ⊕ (c1 ⊖ c½ ⊗ rate) ⊗ sumOfProducts row src
 
 unfoldable pub momentRates : MrtRates → List Float
 momentRates r = c0 ∷ c1·64 ∷ c1·54 ∷ c0 ∷ r .«s_q» ∷ c0 ∷ r .«s_q» ∷ r .«s_nu» ∷ r .«s_nu» ∷ []

@@ -1,4 +1,4 @@
--- The marked cases of a cell, C8 to C11: what the definitions give, and what is said of it.
+-- The marked cases of a cell, C8 to C11, one row each in their order: what the definitions give, and what is said of it.
 -- Assumes nothing.
 use mathlib.Core.List.{List, [], _∷_}
 use Prim.Native.Nat.{ℕ}

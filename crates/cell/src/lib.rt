@@ -5,7 +5,7 @@
 ghost use mathlib.Core.Path.{_≡_};
 ghost use mathlib.Core.Bool.{true, false};
 ghost use Prim.Native.Nat.{_<_};
-ghost use Rattle.cell.specs.Cell.{densityOf, momentumX, momentumY, readMoments, inverseOf, collisionMoments, alongAt, equilibriumAt, equilibriaOf, alongForce, guoAt, guoSources, forcedBy, sourcesOf, bgkRates, trtRates, mrtRates, bgkAt, bgk, trtRelaxedAt, trtRelaxed, trtSourcedAt, trtSourced, trt, momentOf, relaxedBy, relaxedMoments, backAt, mrt, cellBy, collided};
+ghost use Rattle.cell.specs.Cell.{densityOf, sumOfProducts, momentumX, momentumY, readMoments, inverseOf, collisionMoments, alongAt, equilibriumAt, equilibriaOf, alongForce, guoAt, guoSources, forcedBy, sourcesOf, bgkRates, trtRates, mrtRates, bgkAt, bgk, trtRelaxedAt, trtRelaxed, trtSourcedAt, trtSourced, trt, relaxedBy, relaxedMoments, backAt, mrt, cellBy, collided};
 use lattice::e_x;
 use lattice::e_y;
 use lattice::opposite;
@@ -19,34 +19,57 @@ pub fn density(f: [f64; 9]) -> f64
     0.0 + f[0] + f[1] + f[2] + f[3] + f[4] + f[5] + f[6] + f[7] + f[8]
 }
 
+fn sum_of_products(a: [f64; 9], b: [f64; 9]) -> f64
+    ensures { λ r. ⌜ r ≡ sumOfProducts a b ⌝ }
+{
+    0.0
+        + a[0] * b[0]
+        + a[1] * b[1]
+        + a[2] * b[2]
+        + a[3] * b[3]
+        + a[4] * b[4]
+        + a[5] * b[5]
+        + a[6] * b[6]
+        + a[7] * b[7]
+        + a[8] * b[8]
+}
+
 fn momentum_x(f: [f64; 9]) -> f64
     ensures { λ r. ⌜ r ≡ momentumX f ⌝ }
 {
-    0.0
-        + f[0] * e_x(0)
-        + f[1] * e_x(1)
-        + f[2] * e_x(2)
-        + f[3] * e_x(3)
-        + f[4] * e_x(4)
-        + f[5] * e_x(5)
-        + f[6] * e_x(6)
-        + f[7] * e_x(7)
-        + f[8] * e_x(8)
+    sum_of_products(
+        f,
+        [
+            e_x(0),
+            e_x(1),
+            e_x(2),
+            e_x(3),
+            e_x(4),
+            e_x(5),
+            e_x(6),
+            e_x(7),
+            e_x(8),
+        ],
+    )
 }
 
 fn momentum_y(f: [f64; 9]) -> f64
     ensures { λ r. ⌜ r ≡ momentumY f ⌝ }
 {
-    0.0
-        + f[0] * e_y(0)
-        + f[1] * e_y(1)
-        + f[2] * e_y(2)
-        + f[3] * e_y(3)
-        + f[4] * e_y(4)
-        + f[5] * e_y(5)
-        + f[6] * e_y(6)
-        + f[7] * e_y(7)
-        + f[8] * e_y(8)
+    sum_of_products(
+        f,
+        [
+            e_y(0),
+            e_y(1),
+            e_y(2),
+            e_y(3),
+            e_y(4),
+            e_y(5),
+            e_y(6),
+            e_y(7),
+            e_y(8),
+        ],
+    )
 }
 
 // ---- the two readings, each with half of the force in the momentum
@@ -340,29 +363,13 @@ pub fn collide_trt(f: [f64; 9], feq: [f64; 9], src: [f64; 9], rates: TrtRates) -
     trt_sourced(trt_relaxed(f, feq, rates), src, rates)
 }
 
-// A moment: a row of M with nine numbers.
-fn moment(row: [f64; 9], f: [f64; 9]) -> f64
-    ensures { λ r. ⌜ r ≡ momentOf row f ⌝ }
-{
-    0.0
-        + row[0] * f[0]
-        + row[1] * f[1]
-        + row[2] * f[2]
-        + row[3] * f[3]
-        + row[4] * f[4]
-        + row[5] * f[5]
-        + row[6] * f[6]
-        + row[7] * f[7]
-        + row[8] * f[8]
-}
-
-// The moment after collision.
+// A moment after collision: a row of M with the populations, relaxed.
 fn relaxed(rate: f64, row: [f64; 9], f: [f64; 9], feq: [f64; 9], src: [f64; 9]) -> f64
     ensures { λ r. ⌜ r ≡ relaxedBy rate row f feq src ⌝ }
 {
-    let m = moment(row, f);
-    let m_eq = moment(row, feq);
-    let m_src = moment(row, src);
+    let m = sum_of_products(row, f);
+    let m_eq = sum_of_products(row, feq);
+    let m_src = sum_of_products(row, src);
     m - rate * (m - m_eq) + (1.0 - 0.5 * rate) * m_src
 }
 
@@ -460,7 +467,7 @@ pub fn trt_cell_forced(f: [f64; 9], fx: f64, fy: f64, rates: TrtRates) -> [f64; 
     trt_sourced(kept, guo_sources(m, fx, fy, along_force(fx, fy)), rates)
 }
 
-// Beside MRT's two transforms the choice of the source costs next to nothing.
+// With a force and without: MRT is too large to be inlined twice.
 pub fn mrt_cell(f: [f64; 9], fx: f64, fy: f64, rates: MrtRates) -> [f64; 9]
     ensures { λ r. ⌜ r ≡ cellBy (mrt rates) f fx fy ⌝ }
 {

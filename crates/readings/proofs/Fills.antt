@@ -17,7 +17,7 @@ use Rattle.grid.proofs.Writes.{one-more, to-length, cells-all}
 use Rattle.cell.specs.declared.Moments.{Moments}
 use Rattle.cell.specs.Cell.{equilibriumAt, equilibriaOf}
 use Rattle.settings.specs.declared.Settings.{Settings}
-use Rattle.readings.specs.Readings.{initialMoments, initialEntry, initialField, velocityAt, velocityEntry, velocityBuffer}
+use Rattle.readings.specs.Readings.{initialMoments, initialEntry, initialField, velocityAt, componentAt, velocityEntry, velocityBuffer}
 
 -- ---- the populations of an initial table
 
@@ -35,14 +35,14 @@ initial-all s table {d} {e} size w =
 
 module _ (s : Settings) (f : List ℕ) where
   even : (c : ℕ) → velocityEntry s f (2 * c) ≡ patternOf (velocityAt s f c .ux)
-  unfolding velocityEntry
+  unfolding componentAt
   even c =
       let q : 2 * c / 2 ≡ c = omega arith in
       let r : 2 * c % 2 ≡ 0 = omega arith in
       rw (q, r)
 
   odd : (c : ℕ) → velocityEntry s f (2 * c + 1) ≡ patternOf (velocityAt s f c .uy)
-  unfolding velocityEntry
+  unfolding componentAt
   odd c =
       let q : (2 * c + 1) / 2 ≡ c = omega arith in
       let r : (2 * c + 1) % 2 ≡ 1 = omega arith in

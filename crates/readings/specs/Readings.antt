@@ -30,7 +30,7 @@ initialMoments table c = record {
   uy = valueOf (getD table (3 * c + 2) 0);
 }
 
--- every population is its equilibrium
+-- entry i of cell c is its equilibrium
 unfoldable pub initialEntry : List ℕ → ℕ → ℕ → ℕ
 initialEntry table c i = patternOf (equilibriumAt i (initialMoments table c))
 
@@ -68,11 +68,12 @@ velocityRead s f x y =
 
 -- ---- the velocity field
 
--- the components of cell c stand at 2·c and 2·c + 1
-unfoldable pub velocityEntry : Settings → List ℕ → ℕ → ℕ
-velocityEntry s f k =
-    let m = velocityAt s f (k / 2) in
-    patternOf (cond (eqb (k % 2) 0) (m .ux) (m .uy))
+-- component k of all: those of cell c stand at 2·c and 2·c + 1
+unfoldable pub componentAt : Settings → List ℕ → ℕ → Float
+componentAt s f k = let m = velocityAt s f (k / 2) in cond (eqb (k % 2) 0) (m .ux) (m .uy)
+
+abbrev pub velocityEntry : Settings → List ℕ → ℕ → ℕ
+velocityEntry s f k = patternOf (componentAt s f k)
 
 unfoldable pub velocityBuffer : Settings → List ℕ → List ℕ
 velocityBuffer s f = listed (2 * (s .nx * s .ny)) (velocityEntry s f)

@@ -1,45 +1,56 @@
 -- Streaming and the four faces together: fields that the code reached one after the other are the rule's, and a buffer is told by its field.
 -- Assumes nothing.
 use mathlib.Core.Path.{_≡_, refl, sym, ap, _∙_}
-use mathlib.Core.Bool.{Bool, true, false, _||_}
+use mathlib.Core.Bool.{Bool, false, _||_}
 use mathlib.Core.List.{List}
 use Prim.Native.Nat.{ℕ, _*_}
 use lib.ListN.{length}
 use Rattle.lattice.specs.Lattice.{X, Y}
-use Rattle.grid.specs.Grid.{Field, fieldOf, bufferOf, Same}
+use Rattle.grid.specs.Grid.{Field, fieldOf, Same}
 use Rattle.grid.proofs.Fields.{same-refl, same-trans, buffer-length, field-of-buffer, is-buffer}
 use Rattle.settings.specs.declared.Settings.{Settings}
 use Rattle.settings.specs.Tests.{drives, driven}
 use Rattle.settings.proofs.Laws.{or-left, or-right}
-use Rattle.streaming.specs.Steps.{facing, turned, streamed}
+use Rattle.streaming.specs.Steps.{facing, turned, streamed, seen}
+use Rattle.streaming.specs.Rows.{Lent, Became}
 use Rattle.streaming.specs.Faces.{min, max, face}
 use Rattle.streaming.specs.Streaming.{bounded, next, nextBuffer, carried}
 use Rattle.streaming.proofs.Turned.{facing-small, facing-twice}
 use Rattle.streaming.proofs.Faces.{face-same}
 
+-- a buffer that was written whole in place is lent on
+pub still-lent : {nx ny : ℕ} {src d e : List ℕ} → Lent nx ny src d → length e ≡ length d → Lent nx ny src e
+still-lent l size = record { grid = l .grid; read = l .read; written = size ∙ l .written }
+
 -- ---- the four faces
 
-module _ (s : Settings) (post : Field) where
-  -- each face from the field before it
-  pub four-faces : (f0 : Field) {f1 f2 f3 f4 : Field}
-      → Same (s .nx) (s .ny) f1 (face X min (s .«x_min») (s .nx) (s .ny) post f0)
-      → Same (s .nx) (s .ny) f2 (face X max (s .«x_max») (s .nx) (s .ny) post f1)
-      → Same (s .nx) (s .ny) f3 (face Y min (s .«y_min») (s .nx) (s .ny) post f2)
-      → Same (s .nx) (s .ny) f4 (face Y max (s .«y_max») (s .nx) (s .ny) post f3)
-      → Same (s .nx) (s .ny) f4 (bounded s post f0)
-  four-faces f0 s1 s2 s3 s4 =
-      let t2 = same-trans s2 (face-same X max (s .«x_max») same-refl s1) in
-      let t3 = same-trans s3 (face-same Y min (s .«y_min») same-refl t2) in
-      same-trans s4 (face-same Y max (s .«y_max») same-refl t3)
+module _ (back : Bool) (s : Settings) (post : Field) where
+  abbrev pub Then : List ℕ → List ℕ → (Field → Field) → Type 0
+  Then d e g = Became back (s .nx) (s .ny) d e (g (seen back (s .nx) (s .ny) d))
+
+  -- each face from the buffer before it
+  pub four-faces : (f0 f1 f2 f3 f4 : List ℕ)
+      → Then f0 f1 (face X min (s .«x_min») (s .nx) (s .ny) post)
+      → Then f1 f2 (face X max (s .«x_max») (s .nx) (s .ny) post)
+      → Then f2 f3 (face Y min (s .«y_min») (s .nx) (s .ny) post)
+      → Then f3 f4 (face Y max (s .«y_max») (s .nx) (s .ny) post)
+      → Then f0 f4 (bounded s post)
+  four-faces f0 f1 f2 f3 f4 b1 b2 b3 b4 =
+      let t2 = same-trans (b2 .field) (face-same X max (s .«x_max») same-refl (b1 .field)) in
+      let t3 = same-trans (b3 .field) (face-same Y min (s .«y_min») same-refl t2) in
+      record {
+        size = b4 .size ∙ b3 .size ∙ b2 .size ∙ b1 .size;
+        field = same-trans (b4 .field) (face-same Y max (s .«y_max») same-refl t3);
+      }
 
   -- the faces after streaming
-  pub then-faces : {f1 f2 : Field} → Same (s .nx) (s .ny) f1 (streamed (s .nx) (s .ny) post) → Same (s .nx) (s .ny) f2 (bounded s post f1) → Same (s .nx) (s .ny) f2 (next s post)
+  pub then-faces : (f0 f1 f2 : List ℕ) → Became back (s .nx) (s .ny) f0 f1 (streamed (s .nx) (s .ny) post) → Then f1 f2 (bounded s post) → Became back (s .nx) (s .ny) f0 f2 (next s post)
   unfolding next
-  then-faces s1 s2 =
-      let t1 = face-same X min (s .«x_min») same-refl s1 in
+  then-faces f0 f1 f2 b1 b2 =
+      let t1 = face-same X min (s .«x_min») same-refl (b1 .field) in
       let t2 = face-same X max (s .«x_max») same-refl t1 in
       let t3 = face-same Y min (s .«y_min») same-refl t2 in
-      same-trans s2 (face-same Y max (s .«y_max») same-refl t3)
+      record { size = b2 .size ∙ b1 .size; field = same-trans (b2 .field) (face-same Y max (s .«y_max») same-refl t3) }
 
 -- no face is driven
 pub record Undriven (s : Settings) : Type 0 where
@@ -67,10 +78,10 @@ module _ (back : Bool) (s : Settings) (b : List ℕ) where
   carried-length = buffer-length (s .nx) (s .ny) _
 
   -- the field of the buffer that is carried to
-  pub carried-field : Same (s .nx) (s .ny) (turned back (fieldOf (s .nx) (s .ny) (carried back s b))) (next s (turned back (fieldOf (s .nx) (s .ny) b)))
+  pub carried-field : Same (s .nx) (s .ny) (seen back (s .nx) (s .ny) (carried back s b)) (next s (seen back (s .nx) (s .ny) b))
   unfolding carried
   carried-field =
-      let p = next s (turned back (fieldOf (s .nx) (s .ny) b)) in
+      let p = next s (seen back (s .nx) (s .ny) b) in
       record {
         here = λ x y i hx hy hi.
             field-of-buffer (s .nx) (s .ny) (turned back p) .here x y (facing back i) hx hy (facing-small back i hi)
@@ -78,13 +89,13 @@ module _ (back : Bool) (s : Settings) (b : List ℕ) where
       }
 
   -- a buffer with that field is the buffer
-  pub is-carried : (e : List ℕ) → length e ≡ 9 * (s .nx * s .ny) → Same (s .nx) (s .ny) (turned back (fieldOf (s .nx) (s .ny) e)) (next s (turned back (fieldOf (s .nx) (s .ny) b))) → e ≡ carried back s b
+  pub is-carried : (d e : List ℕ) → length d ≡ 9 * (s .nx * s .ny) → Became back (s .nx) (s .ny) d e (next s (seen back (s .nx) (s .ny) b)) → e ≡ carried back s b
   unfolding carried
-  is-carried e size w =
-      is-buffer (s .nx) (s .ny) e _ size
+  is-carried d e size w =
+      is-buffer (s .nx) (s .ny) e _ (w .size ∙ size)
       (record {
         here = λ x y i hx hy hi.
-            sym (ap (fieldOf (s .nx) (s .ny) e x y) (facing-twice back i hi)) ∙ w .here x y (facing back i) hx hy (facing-small back i hi);
+            sym (ap (fieldOf (s .nx) (s .ny) e x y) (facing-twice back i hi)) ∙ w .field .here x y (facing back i) hx hy (facing-small back i hi);
       })
 
 -- forward it is the next population buffer

@@ -5,8 +5,8 @@ use mathlib.Core.Bool.{Bool, true, false, cond, _&&_}
 use mathlib.Core.List.{List}
 use Prim.Native.Nat.{ℕ, _+_, _-_, _*_, _<_}
 use native.Mathlib.Omega.{arith}
-use lib.ListN.{length, getD}
-use lib.Ieee.{Float, ofBits, eq, ne}
+use lib.ListN.{getD}
+use lib.Ieee.{ofBits, eq, ne}
 use borrow.Author.Tests.{eqb-true, eqb-false}
 use Rattle.number.specs.Number.{valueOf, c0}
 use Rattle.number.proofs.Nine.{nine-of}
@@ -19,10 +19,11 @@ use Rattle.settings.specs.declared.Face.{Face}
 use Rattle.settings.specs.declared.Face.the-variants.{Periodic, NoSlip, MovingWall, Symmetry, Velocity, Pressure}
 use Rattle.streaming.specs.declared.Names.{Names}
 use Rattle.streaming.specs.declared.Entries.{Entries}
-use Rattle.streaming.specs.Steps.{part, facing, turned}
+use Rattle.streaming.specs.Steps.{part, facing, seen}
+use Rattle.streaming.specs.Rows.{Became}
 use Rattle.streaming.specs.Faces.{Side, min, max, sizeOf, coordOf, onFace, incoming, fed, cellAt, moving, pushed, walled, names, zouHeAt, takes, face}
 use Rattle.streaming.specs.Lines.{lineOf, spot, planesOf, entriesOf, alone, Along}
-use Rattle.streaming.proofs.Directions.{comes-in, sound, named, One, is-n, is-np, is-nm, one-of, none-of, other-facing}
+use Rattle.streaming.proofs.Directions.{comes-in, sound, One, is-n, is-np, is-nm, one-of, none-of, other-facing}
 
 -- ---- which cells a face has
 
@@ -96,9 +97,10 @@ face-same a s k {nx} {ny} {p} {q} {p'} {q'} sp sq =
     by-test false et eu = eu
 
 -- a periodic face does nothing
-pub still : (a : Axis) (s : Side) {nx ny : ℕ} (p q : Field) → Same nx ny q (face a s Periodic nx ny p q)
+pub still : (back : Bool) (a : Axis) (s : Side) (nx ny : ℕ) (p : Field) (f : List ℕ) → Became back nx ny f f (face a s Periodic nx ny p (seen back nx ny f))
 unfolding face takes
-still a s {nx} {ny} p q = record { here = λ x y i hx hy hi. either (fed a s nx ny x y i) (q x y i) }
+still back a s nx ny p f =
+    record { size = refl; field = record { here = λ x y i hx hy hi. either (fed a s nx ny x y i) (seen back nx ny f x y i) } }
   where
     either : (b : Bool) (v : ℕ) → v ≡ cond b v v
     either true v = refl
@@ -127,9 +129,6 @@ module _ (back : Bool) (a : Axis) (s : Side) (k : Face) (nx ny : ℕ) (post f e 
   abbrev pub taken : ℕ → Entries
   taken c = entriesOf (takes a s k (alone back post (nx * ny) c) (alone back f (nx * ny) c) 0 0) (names a s)
 
-  abbrev seen : List ℕ → Field
-  seen b = turned back (fieldOf nx ny b)
-
   -- the line of the face's cells, written with that
   abbrev pub Settled : Type 0
   Settled =
@@ -137,7 +136,7 @@ module _ (back : Bool) (a : Axis) (s : Side) (k : Face) (nx ny : ℕ) (post f e 
       Along f e (nx * ny) l (planesOf (facing back) (names a s)) (l .count) (λ j. taken (spot l j))
 
   at-cell : Settled → (x y i : ℕ) → x < nx → y < ny → i < 9 → (p q : Bool) → incoming s (part a i) ≡ p → onFace s (sizeOf a nx ny) (coordOf a x y) ≡ q
-      → seen e x y i ≡ cond (p && q) (takes a s k (seen post) (seen f) x y i) (seen f x y i)
+      → seen back nx ny e x y i ≡ cond (p && q) (takes a s k (seen back nx ny post) (seen back nx ny f) x y i) (seen back nx ny f x y i)
   unfolding fieldOf
   at-cell w x y i hx hy hi false q ep eq =
       w .planes (x + y * nx) (facing back i) (within x y nx ny hx hy)
@@ -151,13 +150,14 @@ module _ (back : Bool) (a : Axis) (s : Side) (k : Face) (nx ny : ℕ) (post f e 
       let c = x + y * nx in
       entry-of (λ j. getD e (c + facing back j * n) 0) (takes a s k (alone back post n c) (alone back f n c) 0 0) (one-of i (names a s) (comes-in a s i hi ∙ ep))
       (rw (← on .cell) at (w .written (across a x y) (on .below)))
-      ∙ takes-local a s k (alone back post n c) (alone back f n c) (seen post) (seen f) 0 0 x y i hi (λ j h. refl) (λ j h. refl)
+      ∙ takes-local a s k (alone back post n c) (alone back f n c) (seen back nx ny post) (seen back nx ny f) 0 0 x y i hi (λ j h. refl) (λ j h. refl)
 
   -- the buffer holds the face's field
-  pub settled : {kind : Face} → kind ≡ k → Settled → (length e ≡ length f) × Same nx ny (seen e) (face a s kind nx ny (seen post) (seen f))
+  pub settled : {kind : Face} → kind ≡ k → Settled → Became back nx ny f e (face a s kind nx ny (seen back nx ny post) (seen back nx ny f))
   unfolding face
   settled is w =
-      rw is (
-        w .size,
-        record { here = λ x y i hx hy hi. at-cell w x y i hx hy hi (incoming s (part a i)) (onFace s (sizeOf a nx ny) (coordOf a x y)) refl refl },
-      )
+      rw is
+      (record {
+        size = w .size;
+        field = record { here = λ x y i hx hy hi. at-cell w x y i hx hy hi (incoming s (part a i)) (onFace s (sizeOf a nx ny) (coordOf a x y)) refl refl };
+      })

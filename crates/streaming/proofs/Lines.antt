@@ -17,7 +17,7 @@ use Rattle.streaming.specs.declared.Line.{Line}
 use Rattle.streaming.specs.declared.Planes.{Planes}
 use Rattle.streaming.specs.declared.Entries.{Entries}
 use Rattle.streaming.specs.Faces.{Side, min, max}
-use Rattle.streaming.specs.Lines.{lineOf, spot, Inside, entriesAt, Apart, Other, Changed, Along}
+use Rattle.streaming.specs.Lines.{lineOf, spot, Inside, entriesAt, Apart, Changed, Along}
 
 -- ---- where the cells of a face stand
 

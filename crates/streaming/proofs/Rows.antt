@@ -8,12 +8,12 @@ use native.Mathlib.Nat.{add-comm, zero-add}
 use native.Mathlib.Omega.{arith}
 use lib.ListN.{getD}
 use Rattle.lattice.specs.Lattice.{X, Y}
-use Rattle.grid.specs.Grid.{fieldOf, Same}
+use Rattle.grid.specs.Grid.{fieldOf}
 use Rattle.grid.specs.Writes.{Wrote}
 use Rattle.grid.proofs.Radix.{low, high, within, cell-in}
 use Rattle.grid.proofs.Writes.{join, same-values, to-length}
-use Rattle.streaming.specs.Steps.{part, against, far, turn, facing, turned, streamed}
-use Rattle.streaming.specs.Rows.{turnedPlane}
+use Rattle.streaming.specs.Steps.{part, against, far, turn, facing, seen, streamed}
+use Rattle.streaming.specs.Rows.{Became, turnedPlane}
 use Rattle.streaming.proofs.Ring.{before-seam, after-seam}
 use Rattle.streaming.proofs.Turned.{facing-small, facing-twice}
 
@@ -68,7 +68,7 @@ module _ (back : Bool) (p d : List ℕ) (nx ny : ℕ) where
       (omega arith)
 
   -- an entry of the streamed buffer
-  flow-at : (x y i : ℕ) → x < nx → y < ny → i < 9 → flow back nx ny p (x + y * nx + facing back i * (nx * ny)) ≡ streamed nx ny (turned back (fieldOf nx ny p)) x y i
+  flow-at : (x y i : ℕ) → x < nx → y < ny → i < 9 → flow back nx ny p (x + y * nx + facing back i * (nx * ny)) ≡ streamed nx ny (seen back nx ny p) x y i
   unfolding flow plane-at turnedPlane streamed fieldOf
   flow-at x y i hx hy hi =
       let j = facing back i in
@@ -77,12 +77,15 @@ module _ (back : Bool) (p d : List ℕ) (nx ny : ℕ) where
       (ap (λ (k : ℕ). getD p k 0) (add-comm (j * (nx * ny)) _))
 
   -- the whole buffer
-  pub all-planes : (e : List ℕ) → Wrote d e 0 (9 * (nx * ny)) (flow back nx ny p) → Same nx ny (turned back (fieldOf nx ny e)) (streamed nx ny (turned back (fieldOf nx ny p)))
+  pub all-planes : (e : List ℕ) → Wrote d e 0 (9 * (nx * ny)) (flow back nx ny p) → Became back nx ny d e (streamed nx ny (seen back nx ny p))
   unfolding fieldOf
   all-planes e w =
       record {
-        here = λ x y i hx hy hi.
-            let k = x + y * nx + facing back i * (nx * ny) in
-            let b : k < 9 * (nx * ny) = cell-in (nx * ny) (x + y * nx) (facing back i) (within x y nx ny hx hy) (facing-small back i hi) in
-            ap (λ (j : ℕ). getD e j 0) (sym (zero-add k)) ∙ w .inside k b ∙ flow-at x y i hx hy hi;
+        size = w .size;
+        field = record {
+          here = λ x y i hx hy hi.
+              let k = x + y * nx + facing back i * (nx * ny) in
+              let b : k < 9 * (nx * ny) = cell-in (nx * ny) (x + y * nx) (facing back i) (within x y nx ny hx hy) (facing-small back i hi) in
+              ap (λ (j : ℕ). getD e j 0) (sym (zero-add k)) ∙ w .inside k b ∙ flow-at x y i hx hy hi;
+        };
       }

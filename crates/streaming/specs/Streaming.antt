@@ -9,7 +9,7 @@ use Rattle.grid.specs.Grid.{Field, fieldOf, bufferOf}
 use Rattle.settings.specs.declared.Settings.{Settings}
 use Rattle.settings.specs.Refusals.{refusal, streamWithFaces}
 use Rattle.settings.specs.Outcome.{Written, written}
-use Rattle.streaming.specs.Steps.{streamed, turned}
+use Rattle.streaming.specs.Steps.{streamed, turned, seen}
 use Rattle.streaming.specs.Faces.{min, max, face}
 
 -- the faces in their order, from the post-collision field and the field before them: a later face writes over an earlier one
@@ -36,7 +36,7 @@ unfoldable pub carried : Bool → Settings → List ℕ → List ℕ
 carried back s b =
     let nx = s .nx in
     let ny = s .ny in
-    bufferOf nx ny (turned back (next s (turned back (fieldOf nx ny b))))
+    bufferOf nx ny (turned back (next s (seen back nx ny b)))
 
 -- the operation's outcome: the number, and the next population buffer; refused, the population buffer as it was
 abbrev pub streamedWithFaces : Settings → List ℕ → List ℕ → Written

@@ -1,4 +1,6 @@
-// Streaming with six kinds of faces.
+// Streaming with six kinds of faces. A copy copies patterns, so it keeps every bit; only a face that computes goes to f64.
+// `back` turns the travel round: opposite directions change places, in what is read and in what is written. Where the faces lose
+// nothing, that is the way back.
 use settings::Face;
 use settings::Settings;
 ghost use mathlib.Core.Path.{_≡_};
@@ -9,15 +11,15 @@ ghost use lib.Ieee.{binary64, ofInt};
 ghost use Rattle.number.specs.Number.{valueOf, patternOf, c6, _⊕_, _⊗_};
 ghost use Rattle.lattice.specs.Lattice.{ex, ey, W, OPP};
 ghost use Rattle.lattice.specs.Lookup.{axisOf, mirror};
-ghost use Rattle.grid.specs.Grid.{Grid, fieldOf, Same, Holds, mostCells};
+ghost use Rattle.grid.specs.Grid.{Grid, Holds};
 ghost use Rattle.grid.specs.Writes.{Wrote};
 ghost use Rattle.settings.specs.Outcome.{Written};
 ghost use Rattle.settings.specs.Tests.{drives, driven};
 ghost use Rattle.streaming.specs.Steps as Steps;
-ghost use Rattle.streaming.specs.Steps.{part, against, far, turn, turned, streamed};
-ghost use Rattle.streaming.specs.Rows.{turnedPlane};
+ghost use Rattle.streaming.specs.Steps.{part, against, far, turn, streamed, seen};
+ghost use Rattle.streaming.specs.Rows.{Lent, Became, turnedPlane};
 ghost use Rattle.streaming.specs.Faces as Faces;
-ghost use Rattle.streaming.specs.Faces.{moving, pushed, walled, normal, tangent, known, zouHe, zouHeAt};
+ghost use Rattle.streaming.specs.Faces.{moving, pushed, walled, known, zouHe, zouHeAt};
 ghost use Rattle.streaming.specs.Lines as Lines;
 ghost use Rattle.streaming.specs.Lines.{sideOf, frameOf, lineOf, spot, Inside, planesOf, entriesOf, entriesAt, alone, Small, Apart, Sound, Changed, Along, velocityOf};
 ghost use Rattle.streaming.specs.Streaming.{bounded, carried, streamedWithFaces};
@@ -81,10 +83,8 @@ fn step_back(i: usize, axis: usize, n: usize) -> usize
 
 // Streaming: the plane of each direction goes on by one step of it, wrapped on both axes. Turned round, it goes by its opposite's.
 fn stream(back: bool, nx: usize, ny: usize, src: &[u64], dst: &mut [u64])
-    requires { ⌜ Grid nx ny ⌝ }
-    requires { ⌜ (length (now src) ≡ 9 * (nx * ny)) × (length (now dst) ≡ 9 * (nx * ny)) ⌝ }
-    ensures size { λ _. ⌜ length (now (dst .exit)) ≡ length (now (dst .entry)) ⌝ }
-    ensures moves { λ _. ⌜ Same nx ny (turned back (fieldOf nx ny (now (dst .exit)))) (streamed nx ny (turned back (fieldOf nx ny (now (src .entry))))) ⌝ }
+    requires { ⌜ Lent nx ny (now src) (now dst) ⌝ }
+    ensures { λ _. ⌜ Became back nx ny (now (dst .entry)) (now (dst .exit)) (streamed nx ny (seen back nx ny (now (src .entry)))) ⌝ }
 {
     let n = nx * ny;
     let mut j = 0;
@@ -107,6 +107,7 @@ struct Frame {
     t1: i32,
 }
 
+// The component of the inward normal across the face.
 fn sign(side: usize) -> i32
     ensures { λ r. ⌜ r ≡ Faces.sign (sideOf side) ⌝ }
 {
@@ -188,20 +189,21 @@ fn line_of(axis: usize, side: usize, nx: usize, ny: usize) -> Line
 
 // ---- the three directions that come in through a face
 
-// Their planes in a buffer.
+// Three planes of a buffer.
 struct Planes {
     n: usize,
     np: usize,
     nm: usize,
 }
 
-// Their entries at a cell.
+// A cell's entries in three planes.
 struct Entries {
     n: u64,
     np: u64,
     nm: u64,
 }
 
+// The planes that they are written to.
 fn incoming(back: bool, d: Names) -> Planes
     requires { ⌜ Sound d ⌝ }
     ensures { λ r. ⌜ (r ≡ planesOf (Steps.facing back) d) × Apart r ⌝ }
@@ -213,7 +215,7 @@ fn incoming(back: bool, d: Names) -> Planes
     }
 }
 
-// The opposites.
+// The planes of their opposites.
 fn opposites(back: bool, d: Names) -> Planes
     requires { ⌜ Sound d ⌝ }
     ensures { λ r. ⌜ (r ≡ planesOf (λ i. Steps.facing back (OPP i)) d) × Small r ⌝ }
@@ -225,7 +227,7 @@ fn opposites(back: bool, d: Names) -> Planes
     }
 }
 
-// The directions mirrored along an axis.
+// The planes of the directions mirrored along an axis.
 fn mirrors(back: bool, axis: usize, d: Names) -> Planes
     requires { ⌜ Sound d ⌝ }
     ensures { λ r. ⌜ (r ≡ planesOf (λ i. Steps.facing back (mirror (axisOf axis) i)) d) × Small r ⌝ }
@@ -301,6 +303,7 @@ fn push(i: usize, b: u64, rho: f64, u: f64, v: f64) -> u64
     number::pattern(number::value(b) + 6.0 * lattice::weight(i) * rho * eu)
 }
 
+// The three entries from a wall that moves; ρw sums the cell's post-collision entries.
 fn push_entries(d: Names, u: f64, v: f64, n: usize, c: usize, post: &[u64]) -> Entries
     requires { ⌜ Holds (now post) n c × Sound d ⌝ }
     ensures { λ r. ⌜ r ≡ entriesOf (pushed u v (alone false (now (post .entry)) n c) 0 0) d ⌝ }
@@ -314,6 +317,7 @@ fn push_entries(d: Names, u: f64, v: f64, n: usize, c: usize, post: &[u64]) -> E
     }
 }
 
+// Halfway bounce-back at a wall that moves.
 fn moving_wall(line: Line, n: usize, d: Names, u: f64, v: f64, post: &[u64], f: &mut [u64])
     requires { ⌜ Inside line n × Sound d ⌝ }
     requires { ⌜ (length (now post) ≡ 9 * n) × (length (now f) ≡ 9 * n) ⌝ }
@@ -328,7 +332,7 @@ fn moving_wall(line: Line, n: usize, d: Names, u: f64, v: f64, post: &[u64], f: 
     }
 }
 
-// Halfway bounce-back, with wall motion unless both speeds equal 0. Only at rest may the travel be turned round.
+// Halfway bounce-back, with wall motion unless both speeds equal 0. Only a wall at rest has a way back.
 fn bounce_back(
     line: Line,
     n: usize,
@@ -373,7 +377,7 @@ struct Prescribed {
     ut: f64,
 }
 
-// From the entries along the face plus twice the outgoing ones.
+// `sum` is the entries along the face plus twice the outgoing ones.
 fn prescribe(kind: ZouHe, sum: f64) -> Prescribed
     ensures { λ r. ⌜ r ≡ Lines.prescribed kind sum ⌝ }
 {
@@ -391,7 +395,7 @@ fn prescribe(kind: ZouHe, sum: f64) -> Prescribed
     }
 }
 
-// The three entries that come in at a cell that stands at f.
+// The three entries that come in at a cell, from its nine as they stand.
 fn zou_he_entries(d: Names, kind: ZouHe, f: [f64; 9]) -> Entries
     requires { ⌜ Sound d ⌝ }
     ensures { λ r. ⌜ r ≡ entriesOf (λ i. patternOf (zouHe d (Lines.prescribed kind (known d f)) f i)) d ⌝ }
@@ -446,7 +450,7 @@ fn velocity(axis: usize, side: usize, u: f64, v: f64) -> ZouHe
 
 // ---- one face, and all four
 
-// Applies one face. Only faces that drive no flow have a way back.
+// Applies one face, whichever of the four. Only a face that drives nothing has a way back.
 fn face(
     axis: usize,
     side: usize,
@@ -457,11 +461,8 @@ fn face(
     post: &[u64],
     f: &mut [u64],
 )
-    requires { ⌜ Grid nx ny ⌝ }
-    requires { ⌜ (length (now post) ≡ 9 * (nx * ny)) × (length (now f) ≡ 9 * (nx * ny)) ⌝ }
-    requires { ⌜ (back ≡ true → drives kind ≡ false) ⌝ }
-    ensures size { λ _. ⌜ length (now (f .exit)) ≡ length (now (f .entry)) ⌝ }
-    ensures bounds { λ _. ⌜ Same nx ny (turned back (fieldOf nx ny (now (f .exit)))) (Faces.face (axisOf axis) (sideOf side) kind nx ny (turned back (fieldOf nx ny (now (post .entry)))) (turned back (fieldOf nx ny (now (f .entry))))) ⌝ }
+    requires { ⌜ Lent nx ny (now post) (now f) × (back ≡ true → drives kind ≡ false) ⌝ }
+    ensures { λ _. ⌜ Became back nx ny (now (f .entry)) (now (f .exit)) (Faces.face (axisOf axis) (sideOf side) kind nx ny (seen back nx ny (now (post .entry))) (seen back nx ny (now (f .entry)))) ⌝ }
 {
     let n = nx * ny;
     let line = line_of(axis, side, nx, ny);
@@ -478,11 +479,8 @@ fn face(
 
 // Applies the faces: x min, x max, y min, y max. A later face writes over an earlier one, so y settles corners.
 fn apply_boundaries(s: Settings, back: bool, post: &[u64], f: &mut [u64])
-    requires { ⌜ Grid (s .nx) (s .ny) ⌝ }
-    requires { ⌜ (length (now post) ≡ 9 * (s .nx * s .ny)) × (length (now f) ≡ 9 * (s .nx * s .ny)) ⌝ }
-    requires { ⌜ (back ≡ true → driven s ≡ false) ⌝ }
-    ensures size { λ _. ⌜ length (now (f .exit)) ≡ length (now (f .entry)) ⌝ }
-    ensures bounds { λ _. ⌜ Same (s .nx) (s .ny) (turned back (fieldOf (s .nx) (s .ny) (now (f .exit)))) (bounded s (turned back (fieldOf (s .nx) (s .ny) (now (post .entry)))) (turned back (fieldOf (s .nx) (s .ny) (now (f .entry))))) ⌝ }
+    requires { ⌜ Lent (s .nx) (s .ny) (now post) (now f) × (back ≡ true → driven s ≡ false) ⌝ }
+    ensures { λ _. ⌜ Became back (s .nx) (s .ny) (now (f .entry)) (now (f .exit)) (bounded s (seen back (s .nx) (s .ny) (now (post .entry))) (seen back (s .nx) (s .ny) (now (f .entry)))) ⌝ }
 {
     let x_min = s.x_min;
     let x_max = s.x_max;
@@ -496,18 +494,16 @@ fn apply_boundaries(s: Settings, back: bool, post: &[u64], f: &mut [u64])
 
 // ---- streaming with faces
 
-// Streams post into f and applies the faces. Turned round, opposite directions have changed places in both buffers.
+// Streams post into f and applies the faces: forward for each step of a run, and turned round for the reverse.
 pub fn carry(s: Settings, back: bool, post: &[u64], f: &mut [u64])
-    requires { ⌜ Grid (s .nx) (s .ny) ⌝ }
-    requires { ⌜ (length (now post) ≡ 9 * (s .nx * s .ny)) × (length (now f) ≡ 9 * (s .nx * s .ny)) ⌝ }
-    requires { ⌜ (back ≡ true → driven s ≡ false) ⌝ }
+    requires { ⌜ Lent (s .nx) (s .ny) (now post) (now f) × (back ≡ true → driven s ≡ false) ⌝ }
     ensures { λ _. ⌜ now (f .exit) ≡ carried back s (now (post .entry)) ⌝ }
 {
     stream(back, s.nx, s.ny, post, f);
     apply_boundaries(s, back, post, f);
 }
 
-// Streaming with faces: reads the post-collision buffer and makes f the next populations.
+// Reads the post-collision buffer and makes f the next populations. A refused call leaves f as it was.
 pub fn stream_with_faces(s: Settings, post: &[u64], f: &mut [u64]) -> u32
     ensures { λ r. ⌜ _≡_ {A = Written} (record { number = r; buffer = now (f .exit) }) (streamedWithFaces s (now (post .entry)) (now (f .entry))) ⌝ }
 {

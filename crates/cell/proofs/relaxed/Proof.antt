@@ -7,7 +7,7 @@ use Rattle.cell.proofs.relaxed.Tie as tie
 
 returns : tie.Need-returns
 unfolding relaxedBy
-returns c = rw (c .before .before .moment .ensures, c .before .moment2 .ensures, c .moment3 .ensures)
+returns c = rw (c .before .before .sum-of-products .ensures, c .before .sum-of-products2 .ensures, c .sum-of-products3 .ensures)
 
 pub relaxed-spec : {M : Type 1} → statement M
 relaxed-spec =

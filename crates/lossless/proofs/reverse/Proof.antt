@@ -29,7 +29,7 @@ carry-requires c κs =
     let r = test .before in
     let a = r .before .before .before .args in
     let k = known (Call.reverse (a .s) (length (a .f .now)) (length (a .post .now))) (sym (r .reverse-refusal .ensures) ∙ test .if1 .left) in
-    (k .0, ((k .1 .0 .size, k .1 .1 .0 .size), λ h. k .1 .1 .1 .1 .0))
+    (record { grid = k .0; read = k .1 .0 .size; written = k .1 .1 .0 .size }, λ h. k .1 .1 .1 .1 .0)
 
 returns-2 : tie.Need-returns-2
 returns-2 c =

@@ -1,11 +1,11 @@
 -- `streaming::face` meets its contract: what each kind wrote along the line of cells is what its rule says.
 -- Assumes nothing.
-use mathlib.Core.Path.{refl, ap}
+use mathlib.Core.Path.{ap}
 use mathlib.Core.Bool.{false}
 use Prim.Native.Nat.{_*_}
 use borrow.Author.Needs.{needs}
 use Rattle.lattice.specs.Lookup.{axisOf}
-use Rattle.settings.specs.declared.Face.the-variants.{Periodic, NoSlip, MovingWall, Symmetry, Velocity, Pressure}
+use Rattle.settings.specs.declared.Face.the-variants.{NoSlip, Symmetry}
 use Rattle.settings.specs.Tests.{drives}
 use Rattle.streaming.specs.Faces.{names, takes}
 use Rattle.streaming.specs.Lines.{sideOf, lineOf, spot, alone}
@@ -34,7 +34,7 @@ bounce-back-requires : tie.Need-bounce-back-requires
 bounce-back-requires c κs =
     let m = c .before .before .before in
     let s = m .before .before .before .before in
-    ((m .before .line-of .ensures .1, m .names-of .ensures .1), (s .pre .1 .0, λ _. at-rest))
+    ((m .before .line-of .ensures .1, m .names-of .ensures .1), ((s .pre .0 .read, s .pre .0 .written), λ _. at-rest))
 
 enum-known-kind : tie.Need-enum-known-kind
 enum-known-kind c = search needs
@@ -44,7 +44,7 @@ bounce-back-requires-2 c κs =
     let known = c .before .before in
     let m = known .before .before in
     let s = m .before .before .before .before in
-    ((m .before .line-of .ensures .1, m .names-of .ensures .1), (s .pre .1 .0, λ h. contradiction (ap drives (known .kind .given .1)) (s .pre .1 .1 h)))
+    ((m .before .line-of .ensures .1, m .names-of .ensures .1), ((s .pre .0 .read, s .pre .0 .written), λ h. contradiction (ap drives (known .kind .given .1)) (s .pre .1 h)))
 
 enum-told-3 : tie.Need-enum-told-3
 enum-told-3 c = search needs
@@ -71,7 +71,7 @@ returns : tie.Need-returns
 returns c =
     let m = c .before .before in
     let a = m .before .before .before .before .args in
-    rw (c .enum-told .given .1) (refl, still (axisOf (a .axis)) (sideOf (a .side)) _ _)
+    rw (c .enum-told .given .1) (still (a .back) (axisOf (a .axis)) (sideOf (a .side)) (a .nx) (a .ny) _ (a .f .now))
 
 same-length : tie.Need-same-length
 same-length c = c .before .before .bounce-back .ensures .size
@@ -124,7 +124,7 @@ returns-5 c =
     let m = known .before .before in
     let s = m .before .before .before .before in
     let a = s .args in
-    rw (not-back (a .back) (drives (a .kind)) (s .pre .1 .1) (ap drives (known .kind2 .given .1)))
+    rw (not-back (a .back) (drives (a .kind)) (s .pre .1) (ap drives (known .kind2 .given .1)))
     (settled false (axisOf (a .axis)) (sideOf (a .side)) _ (a .nx) (a .ny) (a .post .now) (a .f .now) _ (known .kind2 .given .1)
     (rw (v .velocity .ensures, m .before .line-of .ensures .0, m .names-of .ensures .0) at (z .zou-he .ensures)))
 
@@ -139,7 +139,7 @@ returns-6 c =
     let m = known .before .before in
     let s = m .before .before .before .before in
     let a = s .args in
-    rw (not-back (a .back) (drives (a .kind)) (s .pre .1 .1) (ap drives (known .kind3 .given .1)))
+    rw (not-back (a .back) (drives (a .kind)) (s .pre .1) (ap drives (known .kind3 .given .1)))
     (settled false (axisOf (a .axis)) (sideOf (a .side)) _ (a .nx) (a .ny) (a .post .now) (a .f .now) _ (known .kind3 .given .1)
     (rw (m .before .line-of .ensures .0, m .names-of .ensures .0) at (z .zou-he2 .ensures)))
 

@@ -1,6 +1,6 @@
 -- `streaming::stream` meets its contract. The loop's invariant: the first j planes are written.
 -- Assumes nothing.
-use mathlib.Core.Path.{_≡_, ap, _∙_}
+use mathlib.Core.Path.{ap}
 use Prim.Native.Nat.{ℕ, _*_, _-_, _≤_}
 use native.Mathlib.Omega.{arith}
 use Rattle.grid.specs.Writes.{Wrote}
@@ -72,10 +72,8 @@ same-length c = c .before .loop .inv .1 .size
 returns : tie.Need-returns Inv-loop μ-loop
 returns c =
     let head = c .before in
-    let a = head .before .before .before .args in (
-      head .loop .inv .1 .size,
-      all-planes (a .back) (a .src .now) _ (a .nx) (a .ny) _ (to-length (head .loop .inv .1) (ap (λ (j : ℕ). j * (a .nx * a .ny)) (omega arith))),
-    )
+    let a = head .before .before .before .args in
+    all-planes (a .back) (a .src .now) _ (a .nx) (a .ny) _ (to-length (head .loop .inv .1) (ap (λ (j : ℕ). j * (a .nx * a .ny)) (omega arith)))
 
 pub stream-spec : {M : Type 1} → statement M
 stream-spec =

@@ -33,7 +33,7 @@ carry-requires c κs =
     let r = test .before in
     let a = r .before .before .before .args in
     let k = known (streamWithFaces (a .s) (length (a .post .now)) (length (a .f .now))) (sym (r .stream-with-faces-refusal .ensures) ∙ test .if1 .left) in
-    (k .0, ((k .1 .1 .0 .size, k .1 .0 .size), λ h. contradiction h refl))
+    (record { grid = k .0; read = k .1 .1 .0 .size; written = k .1 .0 .size }, λ h. contradiction h refl)
 
 same-length : tie.Need-same-length
 same-length c = search needs

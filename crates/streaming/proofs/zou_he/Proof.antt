@@ -3,13 +3,14 @@
 use mathlib.Core.Path.{_≡_, ap, _∙_}
 use mathlib.Core.Bool.{false}
 use mathlib.Core.List.{List}
-use Prim.Native.Nat.{_-_, _≤_}
+use Prim.Native.Nat.{ℕ, _-_, _≤_}
 use native.Mathlib.Omega.{arith}
 use lib.Ieee.{Float}
 use borrow.Author.Needs.{needs}
 use Rattle.number.specs.Number.{patternOf}
 use Rattle.grid.specs.Grid.{cellOf}
 use Rattle.streaming.specs.declared.Names.{Names}
+use Rattle.streaming.specs.declared.Line.{Line}
 use Rattle.streaming.specs.declared.Entries.{Entries}
 use Rattle.streaming.specs.declared.ZouHe.{ZouHe}
 use Rattle.streaming.specs.Faces.{known, zouHe, zouHeAt}
@@ -18,13 +19,19 @@ use Rattle.streaming.proofs.Lines.{holds-spot, along-none, along-more, 
 use Rattle.streaming.proofs.zou_he.Statement.{statement}
 use Rattle.streaming.proofs.zou_he.Tie as tie
 
--- the entries that come in at a cell
+-- the entries that come in at a cell, and at cell j of the line
 unfoldable from-cell : Names → ZouHe → List Float → Entries
 from-cell d kind f = entriesOf (λ i. patternOf (zouHe d (prescribed kind (known d f)) f i)) d
 
+then-from : (d : Names) (kind : ZouHe) {r : Entries} (f : List Float) {g : List Float} → r ≡ from-cell d kind f → f ≡ g → r ≡ from-cell d kind g
+then-from d kind f p q = p ∙ ap (from-cell d kind) q
+
+abbrev made : Line → ℕ → Names → ZouHe → List ℕ → ℕ → Entries
+made line n d kind f j = entriesOf (zouHeAt d (prescribed kind) (alone false f n (spot line j)) 0 0) d
+
 abbrev Inv-loop : tie.InvT-loop
 Inv-loop line n d kind f₀ to k₀ f k =
-    (k ≤ line .count) × Along f₀ f n line to k (λ j. entriesOf (zouHeAt d (prescribed kind) (alone false f₀ n (spot line j)) 0 0) d)
+    (k ≤ line .count) × Along f₀ f n line to k (made line n d kind f₀)
 
 abbrev μ-loop : tie.MeasureT-loop
 μ-loop line n d kind f₀ to k₀ f k = line .count - k
@@ -74,14 +81,17 @@ loop-again : tie.Need-loop-again Inv-loop μ-loop
 unfolding from-cell cellOf zouHeAt
 loop-again c =
     let put = c .before .before in
-    let made = put .before in
-    let got = made .before in
+    let z = put .before in
+    let got = z .before in
     let test = got .before .before .before .before .before in
     let head = test .before .before in
     let s = head .before .before .before in
+    let a = s .args in
+    let v = made (a .line) (a .n) (a .d) (a .kind) (a .f .now) in
     let w = head .loop .inv .1 in
-    let cell = got .gather .ensures ∙ not-yet (head .loop .k) (s .pre .0) (test .if1 .taken) w in
-    along-more _ _ _ _ _ _ (head .loop .k) _ _ (s .pre .0) (test .if1 .taken) w (put .put .ensures) (made .zou-he-entries .ensures ∙ ap (from-cell (s .args .d) (s .args .kind)) cell)
+    let same = not-yet {v = v} (head .loop .k) (s .pre .0) (test .if1 .taken) w in
+    along-more _ _ _ _ _ _ (head .loop .k) v _ (s .pre .0) (test .if1 .taken) w (put .put .ensures)
+    (then-from (a .d) (a .kind) (got .gather .result) (z .zou-he-entries .ensures) (got .gather .ensures ∙ same))
 
 same-length : tie.Need-same-length Inv-loop μ-loop
 same-length c = c .before .before .loop .inv .1 .size

@@ -1,0 +1,5 @@
+pub mod Cellwise
+pub mod Stepwise
+pub mod Snapshots
+pub mod Settling
+pub mod One

@@ -1,0 +1,83 @@
+-- Snapshots: one cell more and all cells, for the loop that judges a snapshot and for the loop that takes one.
+-- Assumes nothing.
+use mathlib.Core.Path.{_≡_, refl, sym, ap, _∙_}
+use mathlib.Core.Bool.{Bool, false, _||_}
+use mathlib.Core.List.{List}
+use Prim.Native.Nat.{ℕ, suc, _+_, _*_, _/_, _%_, _<_}
+use native.Mathlib.Numerals.{add-one}
+use native.Mathlib.Omega.{arith}
+use lib.ListN.{length, getD}
+use lib.Ieee.{Float}
+use Rattle.number.specs.Number.{c0, valueOf, magnitudeOf, largerOf, _⊖_}
+use Rattle.grid.specs.Writes.{Wrote}
+use Rattle.grid.proofs.Writes.{none}
+use Rattle.cell.specs.declared.Moments.{Moments}
+use Rattle.settings.specs.declared.Settings.{Settings}
+use Rattle.readings.specs.Readings.{velocityAt, componentAt, velocityEntry, velocityBuffer}
+use Rattle.readings.proofs.Fills.{velocity-more, velocity-all}
+use Rattle.runs.specs.declared.Maxima.{Maxima}
+use Rattle.runs.specs.Passes.{CellTaken, cellTaken}
+use Rattle.runs.specs.Steady.{someOf, largest, change, speed, ratio, residualOf}
+
+-- ---- judging: whether one of the first c is bad
+
+pub some-none : (g : ℕ → Bool) → false ≡ someOf g 0
+unfolding someOf
+some-none g = refl
+
+pub some-more : (g : ℕ → Bool) (c : ℕ) {a b : Bool} → a ≡ someOf g c → b ≡ g c → a || b ≡ someOf g (c + 1)
+unfolding someOf
+some-more g c p q = rw (add-one, p, q)
+
+-- ---- taking
+
+-- the snapshot's first c cells are written over the last one, and the two maxima are those of their components
+pub record Taken (s : Settings) (f last u : List ℕ) (x : Maxima) (c : ℕ) : Type 0 where
+  pub wrote : Wrote last u 0 (2 * c) (velocityEntry s f)
+  pub du : x .du ≡ largest (change s f last) (2 * c)
+  pub umax : x .umax ≡ largest (speed s f) (2 * c)
+
+two-more : (g : ℕ → Float) (c : ℕ) → largest g (2 * (c + 1)) ≡ largerOf (largerOf (largest g (2 * c)) (g (2 * c))) (g (2 * c + 1))
+unfolding largest
+two-more g c = let e : 2 * (c + 1) ≡ suc (suc (2 * c)) = omega arith in rw (e, add-one (2 * c))
+
+module _ (s : Settings) (f last : List ℕ) where
+  component-x : (c : ℕ) → componentAt s f (2 * c) ≡ velocityAt s f c .ux
+  unfolding componentAt
+  component-x c =
+      let q : 2 * c / 2 ≡ c = omega arith in
+      let r : 2 * c % 2 ≡ 0 = omega arith in
+      rw (q, r)
+
+  component-y : (c : ℕ) → componentAt s f (2 * c + 1) ≡ velocityAt s f c .uy
+  unfolding componentAt
+  component-y c =
+      let q : (2 * c + 1) / 2 ≡ c = omega arith in
+      let r : (2 * c + 1) % 2 ≡ 1 = omega arith in
+      rw (q, r)
+
+  pub taken-none : Taken s f last last (record { du = c0; umax = c0 }) 0
+  unfolding largest
+  taken-none = record { wrote = none _ _ _; du = refl; umax = refl }
+
+  -- one cell more, whose old components are still the last snapshot's
+  pub taken-more : (c : ℕ) {u u' : List ℕ} {x x' : Maxima} {m : Moments} → 2 * c + 1 < length last → m ≡ velocityAt s f c
+      → Taken s f last u x c → _≡_ {A = CellTaken} (record { maxima = x'; u = u' }) (cellTaken x m c u) → Taken s f last u' x' (c + 1)
+  taken-more c {u} {u'} {x} {x'} {m} fits p t e =
+      let old-x : getD u (2 * c) 0 ≡ getD last (2 * c) 0 = t .wrote .above (2 * c) (omega arith) in
+      let old-y : getD u (2 * c + 1) 0 ≡ getD last (2 * c + 1) 0 = t .wrote .above (2 * c + 1) (omega arith) in
+      let new-x : m .ux ≡ componentAt s f (2 * c) = ap (λ (m : Moments). m .ux) p ∙ sym (component-x c) in
+      let new-y : m .uy ≡ componentAt s f (2 * c + 1) = ap (λ (m : Moments). m .uy) p ∙ sym (component-y c) in
+      record {
+        wrote = rw (ap (λ (t : CellTaken). t .u) e) (velocity-more s f last u c fits p refl refl (t .wrote));
+        du = ap (λ (t : CellTaken). t .maxima .du) e ∙ rw (t .du, old-x, old-y, new-x, new-y, two-more (change s f last) c);
+        umax = ap (λ (t : CellTaken). t .maxima .umax) e ∙ rw (t .umax, new-x, new-y, two-more (speed s f) c);
+      }
+
+  module _ {u : List ℕ} {x : Maxima} (t : Taken s f last u x (s .nx * s .ny)) where
+    pub taken-all : length last ≡ 2 * (s .nx * s .ny) → u ≡ velocityBuffer s f
+    taken-all size = velocity-all s f size (t .wrote)
+
+    pub residual-is : {r : Float} → r ≡ ratio (x .du) (x .umax) → r ≡ residualOf s f last
+    unfolding residualOf
+    residual-is e = e ∙ rw (t .du, t .umax)

@@ -1,0 +1,25 @@
+-- `runs::advance` meets its contract: what it collides into post it carries on into f.
+-- Assumes nothing.
+use mathlib.Core.Path.{refl}
+use native.Mathlib.Omega.{arith}
+use borrow.Author.Needs.{needs}
+use Rattle.streaming.proofs.Turned.{contradiction}
+use Rattle.runs.proofs.Stepwise.{stepped}
+use Rattle.runs.proofs.advance.Statement.{statement}
+use Rattle.runs.proofs.advance.Tie as tie
+
+-- forward, so no face need be undriven
+carry-requires : tie.Need-carry-requires
+carry-requires c κs =
+    let ready = c .before .before .before .before .before .before .before .before .before .pre in
+    (record { grid = ready .grid; read = omega arith; written = omega arith }, λ h. contradiction h refl)
+
+returns : tie.Need-returns
+returns c =
+    let on = c .before .before in
+    let collided = on .before .before .before .before .before in
+    stepped _ _ _ (collided .collide .ensures) (on .carry .ensures)
+
+pub advance-spec : {M : Type 1} → statement M
+advance-spec =
+    tie.close (tie.spec (λ c κs. search needs) carry-requires (λ c. search needs) (λ c. search needs) returns)

@@ -1,0 +1,59 @@
+-- What the functions below the operations ask and leave.
+-- Assumes nothing.
+use mathlib.Core.Path.{_≡_}
+use mathlib.Core.List.{List}
+use Prim.Native.Nat.{ℕ, _+_, _*_, _≤_}
+use lib.ListN.{length, getD, set}
+use lib.Ieee.{Float}
+use Rattle.number.specs.Number.{valueOf, patternOf, magnitudeOf, largerOf, _⊖_}
+use Rattle.number.specs.Nine.{at}
+use Rattle.grid.specs.Grid.{mostCells, Grid, cellOf}
+use Rattle.cell.specs.declared.Moments.{Moments}
+use Rattle.cell.specs.Cell.{cellBy}
+use Rattle.settings.specs.declared.Settings.{Settings}
+use Rattle.runs.specs.declared.Maxima.{Maxima}
+
+-- two buffers of n cells
+pub record Paired (n : ℕ) (f post : List ℕ) : Type 0 where
+  pub few : n ≤ mostCells
+  pub f-size : length f ≡ 9 * n
+  pub post-size : length post ≡ 9 * n
+
+-- the buffers of a study whose sides are allowed
+pub record Ready (s : Settings) (f post : List ℕ) : Type 0 where
+  pub grid : Grid (s .nx) (s .ny)
+  pub f-size : length f ≡ 9 * (s .nx * s .ny)
+  pub post-size : length post ≡ 9 * (s .nx * s .ny)
+
+-- those and its velocity buffer
+pub record AllReady (s : Settings) (f post u : List ℕ) : Type 0 where
+  pub ready : Ready s f post
+  pub u-size : length u ≡ 2 * (s .nx * s .ny)
+
+-- its populations and its velocity buffer
+pub record Seen (s : Settings) (f u : List ℕ) : Type 0 where
+  pub grid : Grid (s .nx) (s .ny)
+  pub f-size : length f ≡ 9 * (s .nx * s .ny)
+  pub u-size : length u ≡ 2 * (s .nx * s .ny)
+
+-- entry i of cell c after one of the three collisions
+abbrev pub collidedBy : (List Float → List Float → List Float → List Float) → Float → Float → List ℕ → ℕ → ℕ → ℕ → ℕ
+collidedBy collide fx fy f n c i = patternOf (at (cellBy collide (cellOf f n c) fx fy) i)
+
+-- the two maxima once a component is taken in, which was `last` in the last snapshot
+abbrev pub takenIn : Maxima → Float → Float → Maxima
+takenIn x new last = record {
+  du = largerOf (x .du) (magnitudeOf (new ⊖ last));
+  umax = largerOf (x .umax) (magnitudeOf new);
+}
+
+-- the same for both components of cell c, and the velocity buffer that then holds them
+pub record CellTaken : Type 0 where
+  pub maxima : Maxima
+  pub u : List ℕ
+
+abbrev pub cellTaken : Maxima → Moments → ℕ → List ℕ → CellTaken
+cellTaken x m c u = record {
+  maxima = takenIn (takenIn x (m .ux) (valueOf (getD u (2 * c) 0))) (m .uy) (valueOf (getD u (2 * c + 1) 0));
+  u = set (set u (2 * c) (patternOf (m .ux))) (2 * c + 1) (patternOf (m .uy));
+}

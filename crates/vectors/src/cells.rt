@@ -1,0 +1,37 @@
+// One cell's collision: each kind, without force, with a force in x, in y and in both, in each mode.
+use crate::made;
+use crate::show;
+use cell::Collision;
+
+fn kind(k: u64, rate: f64) -> Collision {
+    if k == 0 {
+        return Collision::Bgk;
+    }
+    if k == 1 {
+        return Collision::Trt(rate);
+    }
+    Collision::Mrt
+}
+
+// The number where it is wanted, and else 0.0.
+fn wanted(on: bool, x: f64) -> f64 {
+    if on { x } else { 0.0 }
+}
+
+// Case k, from the number x on; answers the number after it.
+pub fn one(k: u64, x: u64) -> u64 {
+    let force = k / 9 % 4;
+    let mode = k / 3 % 3;
+    let made = made::nine(mode, x);
+    let f = made.f;
+    let x1 = made::shifted(made.x);
+    let x2 = made::shifted(x1);
+    let x3 = made::shifted(x2);
+    let x4 = made::shifted(x3);
+    let tau = made::number(mode, x1);
+    let rate = made::number(mode, x2);
+    let fx = wanted(force % 2 == 1, made::number(mode, x3));
+    let fy = wanted(2 <= force, made::number(mode, x4));
+    show::nine(cell::collide(kind(k / 36, rate), f, tau, fx, fy));
+    x4
+}
