@@ -7,7 +7,7 @@ use lib.Ieee.{Float}
 use lib.ListN.{length}
 use Rattle.number.specs.Number.{patternOf}
 use Rattle.number.specs.Nine.{at}
-use Rattle.grid.specs.Grid.{cellOf, bufferOf}
+use Rattle.grid.specs.Grid.{cellOf}
 use Rattle.grid.specs.Writes.{Put, Cells}
 use Rattle.grid.proofs.Fields.{is-buffer}
 use Rattle.grid.proofs.Writes.{cell-more, cells-all}

@@ -3,3 +3,4 @@ pub mod Stepwise
 pub mod Snapshots
 pub mod Settling
 pub mod One
+pub mod Tied

@@ -8,7 +8,7 @@ use native.Mathlib.Numerals.{add-one}
 use native.Mathlib.Omega.{arith}
 use lib.ListN.{length, getD}
 use lib.Ieee.{Float}
-use Rattle.number.specs.Number.{c0, valueOf, magnitudeOf, largerOf, _⊖_}
+use Rattle.number.specs.Number.{c0, largerOf}
 use Rattle.grid.specs.Writes.{Wrote}
 use Rattle.grid.proofs.Writes.{none}
 use Rattle.cell.specs.declared.Moments.{Moments}

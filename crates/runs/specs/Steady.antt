@@ -1,8 +1,8 @@
 -- The steady run.
 -- Assumes nothing.
-use mathlib.Core.Bool.{Bool, true, false, not, cond, _||_}
+use mathlib.Core.Bool.{Bool, true, false, cond, _||_}
 use mathlib.Core.List.{List}
-use Prim.Native.Nat.{ℕ, zero, suc, _+_, _*_, _%_}
+use Prim.Native.Nat.{ℕ, zero, suc, _*_, _%_}
 use lib.Dec.{eqb}
 use lib.ListN.{length, getD}
 use lib.Ieee.{Float, lt}
@@ -63,10 +63,11 @@ change s f last k = magnitudeOf (componentAt s f k ⊖ valueOf (getD last k 0))
 abbrev pub speed : Settings → List ℕ → ℕ → Float
 speed s f k = magnitudeOf (componentAt s f k)
 
--- THE RESIDUAL of the snapshot of f against the last: max|Δu| over max|u|, or max|Δu| where max|u| is 0
+-- max|Δu| over max|u|, or max|Δu| where max|u|, which is never below 0, is 0
 abbrev pub ratio : Float → Float → Float
 ratio du umax = cond (lt c0 umax) (du ⊘ umax) du
 
+-- THE RESIDUAL of the snapshot of f against the last, each maximum over all components
 unfoldable pub residualOf : Settings → List ℕ → List ℕ → Float
 residualOf s f last =
     let n = 2 * (s .nx * s .ny) in

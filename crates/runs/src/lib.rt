@@ -175,7 +175,8 @@ pub fn run(s: Settings, steps: u64, f: &mut [u64], post: &mut [u64]) -> u32
 
 // ---- the steady run
 
-// What a steady run answers: settled or ran out, with the number of steps and the residual; ruined by a bad snapshot, with the number of steps.
+// What a steady run answers: settled or ran out, with the number of steps and the residual; ruined by a bad snapshot, with the
+// number of steps.
 pub enum Steady {
     Refused(u32),
     Settled(u64, f64),
@@ -184,7 +185,7 @@ pub enum Steady {
 }
 
 // What a check finds: a bad snapshot, or the residual, below the tolerance or not.
-pub enum Check {
+enum Check {
     Bad,
     Settles(f64),
     GoesOn(f64),

@@ -1,6 +1,5 @@
 -- `runs::bad_cell` meets its contract: both components of what is read are tested.
 -- Assumes nothing.
-use mathlib.Core.Path.{refl}
 use borrow.Author.Needs.{needs}
 use Rattle.runs.specs.Steady.{badCell}
 use Rattle.runs.proofs.bad_cell.Statement.{statement}

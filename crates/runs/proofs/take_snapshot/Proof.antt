@@ -1,6 +1,5 @@
 -- `runs::take_snapshot` meets its contract. The loop's invariant: the cells below c are taken, and c is at most n.
 -- Assumes nothing.
-use mathlib.Core.Path.{_∙_}
 use Prim.Native.Nat.{_-_, _≤_}
 use native.Mathlib.Nat.{le-antisymm}
 use native.Mathlib.Omega.{arith}

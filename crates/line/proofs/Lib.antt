@@ -1,0 +1,11 @@
+pub mod Words
+pub mod Sides
+pub mod Parts
+pub mod Forms
+pub mod Question
+pub mod Decimal
+pub mod Puts
+pub mod Sizes
+pub mod Handed
+pub mod One
+pub mod Examples

@@ -1,0 +1,124 @@
+-- Which lines are readable, what each asks, and the bytes that are written for it.
+-- Assumes nothing.
+use mathlib.Core.Path.{_≡_}
+use mathlib.Core.Bool.{Bool, true, cond, _&&_, _||_}
+use mathlib.Core.List.{List, [], _∷_, _++_}
+use Prim.Native.Nat.{ℕ, _+_, _*_, _-_}
+use Prim.Native.Char.{code}
+use lib.Dec.{eqb, leb}
+use lib.ListN.{length, getD}
+use Rattle.number.specs.Number.{c0}
+use Rattle.cell.specs.declared.Collision.the-variants.{Bgk}
+use Rattle.settings.specs.declared.Face.{Face}
+use Rattle.settings.specs.declared.Face.the-variants.{Periodic, NoSlip, Symmetry}
+use Rattle.settings.specs.declared.Settings.{Settings}
+use Rattle.lossless.specs.declared.Answer.{Answer}
+use Rattle.lossless.specs.declared.Answer.the-variants.{Refused, Lossless, Lossy}
+use Rattle.lossless.specs.Lossless.{losslessOf}
+use Rattle.line.specs.Text.{bytes, decimal}
+
+-- ---- the form of a line: four letters and two sides, one space before each side
+
+abbrev pub space : ℕ
+space = code " "
+
+-- what stands before the first space, and what stands after it
+unfoldable pub before : List ℕ → List ℕ
+before [] = []
+before (b ∷ rest) = cond (eqb b space) [] (b ∷ before rest)
+
+unfoldable pub after : List ℕ → List ℕ
+after [] = []
+after (b ∷ rest) = cond (eqb b space) rest (after rest)
+
+-- the letters are P, N and S
+abbrev pub isLetter : ℕ → Bool
+isLetter b = eqb b (code "P") || eqb b (code "N") || eqb b (code "S")
+
+unfoldable pub areLetters : List ℕ → Bool
+areLetters bs =
+    eqb (length bs) 4
+    && (isLetter (getD bs 0 0) && isLetter (getD bs 1 0) && isLetter (getD bs 2 0) && isLetter (getD bs 3 0))
+
+abbrev pub isDigit : ℕ → Bool
+isDigit b = leb (code "0") b && leb b (code "9")
+
+unfoldable pub areDigits : List ℕ → Bool
+areDigits [] = true
+areDigits (b ∷ rest) = isDigit b && areDigits rest
+
+-- a side is one to five decimal digits
+abbrev pub mostDigits : ℕ
+mostDigits = 5
+
+unfoldable pub isSide : List ℕ → Bool
+isSide bs = leb 1 (length bs) && leb (length bs) mostDigits && areDigits bs
+
+unfoldable pub areSides : List ℕ → Bool
+areSides bs = isSide (before bs) && isSide (after bs)
+
+abbrev pub mostBytes : ℕ
+mostBytes = 64
+
+unfoldable pub readable : List ℕ → Bool
+readable line = leb (length line) mostBytes && areLetters (before line) && areSides (after line)
+
+-- ---- what it asks
+
+-- P, N and S are Periodic, NoSlip and Symmetry
+unfoldable pub faceOf : ℕ → Face
+faceOf letter = cond (eqb letter (code "P")) Periodic (cond (eqb letter (code "N")) NoSlip Symmetry)
+
+-- the number that the digits bs say after those that say n
+unfoldable pub numberAfter : ℕ → List ℕ → ℕ
+numberAfter n [] = n
+numberAfter n (b ∷ rest) = numberAfter (n * 10 + (b - code "0")) rest
+
+abbrev pub numberOf : List ℕ → ℕ
+numberOf bs = numberAfter 0 bs
+
+-- x min, x max, y min, y max, then the sides. The question does not look at viscosity, force and collision
+abbrev pub study : ℕ → ℕ → ℕ → ℕ → ℕ → ℕ → Settings
+study a b c d nx ny = record {
+  nx = nx;
+  ny = ny;
+  nu = c0;
+  fx = c0;
+  fy = c0;
+  collision = Bgk;
+  «x_min» = faceOf a;
+  «x_max» = faceOf b;
+  «y_min» = faceOf c;
+  «y_max» = faceOf d;
+}
+
+unfoldable pub asked : List ℕ → Settings
+asked line =
+    study (getD line 0 0) (getD line 1 0) (getD line 2 0) (getD line 3 0)
+    (numberOf (before (after line))) (numberOf (after (after line)))
+
+-- ---- what is written for it
+
+-- a number in an answer has a space before it
+abbrev pub spaced : ℕ → List ℕ
+spaced n = space ∷ decimal n
+
+unfoldable pub worded : Answer → List ℕ
+worded (Refused number) = bytes "refused" ++ spaced number ++ bytes "\n"
+worded Lossless = bytes "lossless\n"
+worded (Lossy x y i) = bytes "lossy" ++ spaced x ++ spaced y ++ spaced i ++ bytes "\n"
+
+-- a line of any other form, or one that is too long
+abbrev pub unreadable : List ℕ
+unreadable = bytes "unreadable\n"
+
+unfoldable pub answerTo : List ℕ → List ℕ
+answerTo line = cond (readable line) (worded (losslessOf (asked line))) unreadable
+
+-- ---- the form as one equation: what answerTo says of it is shown in proofs/Forms.antt
+
+pub record Form (line : List ℕ) (a b c d : ℕ) (xs ys : List ℕ) : Type 0 where
+  pub parts : line ≡ a ∷ b ∷ c ∷ d ∷ space ∷ xs ++ space ∷ ys
+  pub letters : isLetter a && isLetter b && isLetter c && isLetter d ≡ true
+  pub x-side : isSide xs ≡ true
+  pub y-side : isSide ys ≡ true
