@@ -56,7 +56,7 @@ fed a s nx ny x y i = incoming s (part a i) && onFace s (sizeOf a nx ny) (coordO
 abbrev pub cellAt : Field → ℕ → ℕ → List Float
 cellAt p x y = nine (λ i. valueOf (p x y i))
 
--- unless both speeds equal 0
+-- not both speeds equal 0
 abbrev pub moving : Float → Float → Bool
 moving u v = ne u c0 || ne v c0
 

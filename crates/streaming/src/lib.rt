@@ -410,12 +410,15 @@ fn zou_he_entries(d: Names, kind: ZouHe, f: [f64; 9]) -> Entries
     let sum_parallel = f[0] + f_t + f_tm;
     let sum_outgoing = f_on + f_onp + f_onm;
     let w = prescribe(kind, sum_parallel + 2.0 * sum_outgoing);
+    let rho = w.rho;
+    let un = w.un;
+    let ut = w.ut;
     // the transverse momentum that the entries along the face carry
     let nt = 0.5 * (f_t - f_tm);
     Entries {
-        n: number::pattern(f_on + 2.0 / 3.0 * w.rho * w.un),
-        np: number::pattern(f_onp + w.rho * w.un / 6.0 + 0.5 * w.rho * w.ut - nt),
-        nm: number::pattern(f_onm + w.rho * w.un / 6.0 - 0.5 * w.rho * w.ut + nt),
+        n: number::pattern(f_on + 2.0 / 3.0 * rho * un),
+        np: number::pattern(f_onp + rho * un / 6.0 + 0.5 * rho * ut - nt),
+        nm: number::pattern(f_onm + rho * un / 6.0 - 0.5 * rho * ut + nt),
     }
 }
 

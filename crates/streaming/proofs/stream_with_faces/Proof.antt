@@ -9,7 +9,6 @@ use Rattle.settings.specs.Refusals.{streamWithFaces}
 use Rattle.settings.specs.Outcome.{Written}
 use Rattle.settings.proofs.Laws.{known}
 use Rattle.settings.proofs.Outcome.{answered, refused}
-use Rattle.streaming.specs.Streaming.{nextBuffer}
 use Rattle.streaming.proofs.Turned.{contradiction}
 use Rattle.streaming.proofs.Carried.{carried-forward}
 use Rattle.streaming.proofs.stream_with_faces.Statement.{statement}
@@ -25,7 +24,7 @@ returns : tie.Need-returns
 returns c =
     let r = c .before in
     let a = r .before .before .before .args in
-    refused (outcome (nextBuffer (a .s) (a .post .now)) 0) (outcome (a .f .now)) (r .stream-with-faces-refusal .ensures) (c .if1 .taken)
+    refused _ (outcome (a .f .now)) (r .stream-with-faces-refusal .ensures) (c .if1 .taken)
 
 carry-requires : tie.Need-carry-requires
 carry-requires c κs =

@@ -97,9 +97,9 @@ pattern-requires-3 c κs = search needs
 
 returns : tie.Need-returns
 returns c =
-    let p2 = c .before .before .before .before in
-    let p1 = p2 .before .before .before .before in
-    let w = p1 .before .before .before in
+    let p2 = c .before in
+    let p1 = p2 .before in
+    let w = p1 .before in
     let o3 = w .before in
     let o2 = o3 .before in
     let o1 = o2 .before in
