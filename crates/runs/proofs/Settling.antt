@@ -20,7 +20,7 @@ use Rattle.runs.specs.declared.Check.the-variants.{Bad, Settles, GoesOn}
 use Rattle.runs.specs.declared.Steady.the-variants.{Refused, RanOut, Ruined}
 use Rattle.runs.specs.Passes.{AllReady}
 use Rattle.runs.specs.Steps.{State, oneStep, steps}
-use Rattle.runs.specs.Steady.{badSnapshot, residualOf, checked, Checked, checkOf, ended, verdict, onward, settling, steadyOf}
+use Rattle.runs.specs.Steady.{badSnapshot, residualOf, checked, Checked, checkOf, SteadyRun, ended, verdict, onward, settling, steadyOf}
 use Rattle.runs.proofs.Stepwise.{state, no-step, one-more-step}
 
 abbrev found : Check → List ℕ → Checked
@@ -109,9 +109,10 @@ module _ (s : Settings) (tolerance : Float) (most every : ℕ) (b : State) (u : 
   unfolding settling
   ruined-first bad = rw bad
 
-  pub ran-on : {new : List ℕ} → badSnapshot s (b .f) ≡ false → new ≡ velocityBuffer s (b .f) → onward s tolerance every b most 0 new infinity ≡ settling s tolerance most every b u
+  pub ran-on : {new : List ℕ} {o : SteadyRun} → badSnapshot s (b .f) ≡ false → new ≡ velocityBuffer s (b .f)
+      → o ≡ onward s tolerance every b most 0 new infinity → o ≡ settling s tolerance most every b u
   unfolding settling
-  ran-on good news = rw (good, news)
+  ran-on good news e = rw (good, ← news) e
 
 -- ---- the outcome of `run_to_steady_state`, where the code found the number n
 
@@ -126,6 +127,6 @@ module _ (s : Settings) (tolerance : Float) (most every : ℕ) (f post u : List 
         let q = known (Call.runToSteadyState s tolerance most (length f) (length post) (length u)) (sym e ∙ h) in
         record { ready = record { grid = q .0; f-size = q .1 .0 .size; post-size = q .1 .1 .0 .size }; u-size = q .1 .1 .1 .0 .size }
 
-    pub is-run : settling s tolerance most every (state f post) u ≡ steadyOf s tolerance most every f post u
+    pub is-run : {o : SteadyRun} → o ≡ settling s tolerance most every (state f post) u → o ≡ steadyOf s tolerance most every f post u
     unfolding steadyOf
-    is-run = answered _ e h refl
+    is-run so = answered _ e h so

@@ -32,10 +32,10 @@ some-more g c p q = rw (add-one, p, q)
 -- ---- taking
 
 -- the snapshot's first c cells are written over the last one, and the two maxima are those of their components
-pub record Taken (s : Settings) (f last u : List ℕ) (x : Maxima) (c : ℕ) : Type 0 where
+pub record Taken (s : Settings) (f last u : List ℕ) (max : Maxima) (c : ℕ) : Type 0 where
   pub wrote : Wrote last u 0 (2 * c) (velocityEntry s f)
-  pub du : x .du ≡ largest (change s f last) (2 * c)
-  pub umax : x .umax ≡ largest (speed s f) (2 * c)
+  pub du : max .du ≡ largest (change s f last) (2 * c)
+  pub umax : max .umax ≡ largest (speed s f) (2 * c)
 
 two-more : (g : ℕ → Float) (c : ℕ) → largest g (2 * (c + 1)) ≡ largerOf (largerOf (largest g (2 * c)) (g (2 * c))) (g (2 * c + 1))
 unfolding largest
@@ -61,9 +61,9 @@ module _ (s : Settings) (f last : List ℕ) where
   taken-none = record { wrote = none _ _ _; du = refl; umax = refl }
 
   -- one cell more, whose old components are still the last snapshot's
-  pub taken-more : (c : ℕ) {u u' : List ℕ} {x x' : Maxima} {m : Moments} → 2 * c + 1 < length last → m ≡ velocityAt s f c
-      → Taken s f last u x c → _≡_ {A = CellTaken} (record { maxima = x'; u = u' }) (cellTaken x m c u) → Taken s f last u' x' (c + 1)
-  taken-more c {u} {u'} {x} {x'} {m} fits p t e =
+  pub taken-more : (c : ℕ) {u u' : List ℕ} {max max' : Maxima} {m : Moments} → 2 * c + 1 < length last → m ≡ velocityAt s f c
+      → Taken s f last u max c → _≡_ {A = CellTaken} (record { maxima = max'; u = u' }) (cellTaken max m c u) → Taken s f last u' max' (c + 1)
+  taken-more c {u} {u'} {m = m} fits p t e =
       let old-x : getD u (2 * c) 0 ≡ getD last (2 * c) 0 = t .wrote .above (2 * c) (omega arith) in
       let old-y : getD u (2 * c + 1) 0 ≡ getD last (2 * c + 1) 0 = t .wrote .above (2 * c + 1) (omega arith) in
       let new-x : m .ux ≡ componentAt s f (2 * c) = ap (λ (m : Moments). m .ux) p ∙ sym (component-x c) in
@@ -74,10 +74,10 @@ module _ (s : Settings) (f last : List ℕ) where
         umax = ap (λ (t : CellTaken). t .maxima .umax) e ∙ rw (t .umax, new-x, new-y, two-more (speed s f) c);
       }
 
-  module _ {u : List ℕ} {x : Maxima} (t : Taken s f last u x (s .nx * s .ny)) where
+  module _ {u : List ℕ} {max : Maxima} (t : Taken s f last u max (s .nx * s .ny)) where
     pub taken-all : length last ≡ 2 * (s .nx * s .ny) → u ≡ velocityBuffer s f
     taken-all size = velocity-all s f size (t .wrote)
 
-    pub residual-is : {r : Float} → r ≡ ratio (x .du) (x .umax) → r ≡ residualOf s f last
+    pub residual-is : {r : Float} → r ≡ ratio (max .du) (max .umax) → r ≡ residualOf s f last
     unfolding residualOf
     residual-is e = e ∙ rw (t .du, t .umax)

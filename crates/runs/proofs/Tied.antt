@@ -91,7 +91,7 @@ module _ (s : Settings) (tolerance : Float) (most every : ℕ) (b : State) (u₀
     where
       go : (bad : Bool) → badSnapshot s (b .f) ≡ bad → Tied (settling s tolerance most every b u₀)
       go true h = subst Tied (ruined-first s tolerance most every b u₀ h) (record { reached = no-step s b; within = omega arith; says = record { bad = h; untouched = λ z. refl } })
-      go false h = subst Tied (ran-on s tolerance most every b u₀ h refl) (onward-tied most 0 _ _ (omega arith))
+      go false h = subst Tied (ran-on s tolerance most every b u₀ h refl refl) (onward-tied most 0 _ _ (omega arith))
 
 -- ---- every outcome
 
@@ -103,7 +103,7 @@ module _ (s : Settings) (tolerance : Float) (most every : ℕ) (f post u : List 
   tied = go (ℕ-discrete number 0)
     where
       go : Dec (number ≡ 0) → Tied s tolerance most every (state f post) u (steadyOf s tolerance most every f post u)
-      go (yes z) = subst (Tied s tolerance most every (state f post) u) (is-run s tolerance most every f post u refl z) (settling-tied s tolerance most every (state f post) u)
+      go (yes z) = subst (Tied s tolerance most every (state f post) u) (is-run s tolerance most every f post u refl z refl) (settling-tied s tolerance most every (state f post) u)
       go (no d) = subst (Tied s tolerance most every (state f post) u) (is-refused s tolerance most every f post u refl d) (record { reached = no-step s (state f post); within = omega arith; says = refl })
 
 -- ---- no settled answer stands over a bad cell

@@ -42,9 +42,9 @@ collidedBy collide fx fy f n c i = patternOf (at (cellBy collide (cellOf f n c) 
 
 -- the two maxima once a component is taken in, which was `last` in the last snapshot
 abbrev pub takenIn : Maxima → Float → Float → Maxima
-takenIn x new last = record {
-  du = largerOf (x .du) (magnitudeOf (new ⊖ last));
-  umax = largerOf (x .umax) (magnitudeOf new);
+takenIn max new last = record {
+  du = largerOf (max .du) (magnitudeOf (new ⊖ last));
+  umax = largerOf (max .umax) (magnitudeOf new);
 }
 
 -- the same for both components of cell c, and the velocity buffer that then holds them
@@ -53,7 +53,7 @@ pub record CellTaken : Type 0 where
   pub u : List ℕ
 
 abbrev pub cellTaken : Maxima → Moments → ℕ → List ℕ → CellTaken
-cellTaken x m c u = record {
-  maxima = takenIn (takenIn x (m .ux) (valueOf (getD u (2 * c) 0))) (m .uy) (valueOf (getD u (2 * c + 1) 0));
+cellTaken max m c u = record {
+  maxima = takenIn (takenIn max (m .ux) (valueOf (getD u (2 * c) 0))) (m .uy) (valueOf (getD u (2 * c + 1) 0));
   u = set (set u (2 * c) (patternOf (m .ux))) (2 * c + 1) (patternOf (m .uy));
 }

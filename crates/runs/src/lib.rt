@@ -222,32 +222,36 @@ fn bad_snapshot(s: Settings, f: &[u64]) -> bool
     bad
 }
 
-fn take_in(x: Maxima, new: f64, last: f64) -> Maxima
-    ensures { λ r. ⌜ r ≡ takenIn x new last ⌝ }
+fn take_in(max: Maxima, new: f64, last: f64) -> Maxima
+    ensures { λ r. ⌜ r ≡ takenIn max new last ⌝ }
 {
     Maxima {
-        du: number::larger(x.du, number::magnitude(new - last)),
-        umax: number::larger(x.umax, number::magnitude(new)),
+        du: number::larger(max.du, number::magnitude(new - last)),
+        umax: number::larger(max.umax, number::magnitude(new)),
     }
 }
 
 // Takes in both components of cell c, and writes them over the last snapshot's.
-fn take_cell(x: Maxima, m: Moments, c: usize, u: &mut [u64]) -> Maxima
+fn take_cell(max: Maxima, m: Moments, c: usize, u: &mut [u64]) -> Maxima
     requires { ⌜ 2 * c + 1 < length (now u) ⌝ }
-    ensures { λ r. ⌜ _≡_ {A = CellTaken} (record { maxima = r; u = now (u .exit) }) (cellTaken x m c (now (u .entry))) ⌝ }
+    ensures { λ r. ⌜ _≡_ {A = CellTaken} (record { maxima = r; u = now (u .exit) }) (cellTaken max m c (now (u .entry))) ⌝ }
 {
     let at = 2 * c;
-    let x = take_in(x, m.ux, number::value(u[at]));
-    let x = take_in(x, m.uy, number::value(u[at + 1]));
+    let max = take_in(max, m.ux, number::value(u[at]));
+    let max = take_in(max, m.uy, number::value(u[at + 1]));
     u[at] = number::pattern(m.ux);
     u[at + 1] = number::pattern(m.uy);
-    x
+    max
 }
 
-fn residual_of(x: Maxima) -> f64
-    ensures { λ r. ⌜ r ≡ ratio (x .du) (x .umax) ⌝ }
+fn residual_of(max: Maxima) -> f64
+    ensures { λ r. ⌜ r ≡ ratio (max .du) (max .umax) ⌝ }
 {
-    if 0.0 < x.umax { x.du / x.umax } else { x.du }
+    if 0.0 < max.umax {
+        max.du / max.umax
+    } else {
+        max.du
+    }
 }
 
 // Makes u the snapshot of f, and answers its residual against what u held: one pass does both.
@@ -257,14 +261,14 @@ fn take_snapshot(s: Settings, f: &[u64], u: &mut [u64]) -> f64
     ensures residual { λ r. ⌜ r ≡ residualOf s (now (f .entry)) (now (u .entry)) ⌝ }
 {
     let n = s.nx * s.ny;
-    let mut x = Maxima { du: 0.0, umax: 0.0 };
+    let mut max = Maxima { du: 0.0, umax: 0.0 };
     let mut c = 0;
     while c < n {
         let m = readings::read_velocity(f, n, c, s.fx, s.fy);
-        x = take_cell(x, m, c, u);
+        max = take_cell(max, m, c, u);
         c += 1;
     }
-    residual_of(x)
+    residual_of(max)
 }
 
 // ---- checks

@@ -1,6 +1,5 @@
 -- `runs::run_to_steady_state` meets its contract: refused, nothing is written; else it is as `settle` leaves it.
 -- Assumes nothing.
-use mathlib.Core.Path.{_∙_}
 use borrow.Author.Needs.{needs}
 use Rattle.runs.proofs.Settling.{is-refused, settle-ready, is-run}
 use Rattle.runs.proofs.run_to_steady_state.Statement.{statement}
@@ -19,7 +18,7 @@ returns-2 : tie.Need-returns-2
 returns-2 c =
     let ran = c .before .before .before .before .before .before in
     let go = ran .before .before .before .before in
-    ran .settle .ensures ∙ is-run _ _ _ _ _ _ _ (go .before .run-to-steady-state-refusal .ensures) (go .if1 .left)
+    is-run _ _ _ _ _ _ _ (go .before .run-to-steady-state-refusal .ensures) (go .if1 .left) (ran .settle .ensures)
 
 pub run-to-steady-state-spec : {M : Type 1} → statement M
 run-to-steady-state-spec =

@@ -14,7 +14,7 @@ returns-2 c =
     let ran = c .before .before .before .before .before .before in
     let new = ran .before .before .before .before .before .before in
     let good = new .before .before .before in
-    ran .steady-steps .ensures ∙ ran-on _ _ _ _ _ _ (sym (good .before .bad-snapshot .ensures) ∙ good .if1 .left) (new .velocity-cells .ensures)
+    ran-on _ _ _ _ _ _ (sym (good .before .bad-snapshot .ensures) ∙ good .if1 .left) (new .velocity-cells .ensures) (ran .steady-steps .ensures)
 
 pub settle-spec : {M : Type 1} → statement M
 settle-spec =

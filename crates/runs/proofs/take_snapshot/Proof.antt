@@ -9,10 +9,10 @@ use Rattle.runs.proofs.take_snapshot.Statement.{statement}
 use Rattle.runs.proofs.take_snapshot.Tie as tie
 
 abbrev Inv-loop : tie.InvT-loop
-Inv-loop s f u₀ n x₀ c₀ u x c = (c ≤ n) × Taken s f u₀ u x c
+Inv-loop s f u₀ n max₀ c₀ u max c = (c ≤ n) × Taken s f u₀ u max c
 
 abbrev μ-loop : tie.MeasureT-loop
-μ-loop s f u₀ n x₀ c₀ u x c = n - c
+μ-loop s f u₀ n max₀ c₀ u max c = n - c
 
 loop-holds : tie.Need-loop-holds Inv-loop μ-loop
 loop-holds c = (omega arith, taken-none _ _ _)

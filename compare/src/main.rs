@@ -1,0 +1,151 @@
+//! Compares the proved library with the Rust that it carries over, call by call, on made-up cases.
+
+mod call;
+mod case;
+mod comparison;
+mod expected;
+mod made;
+mod random;
+mod rules;
+mod shrink;
+
+use case::{BUFFERS, Case, OPERATIONS};
+use comparison::{Comparison, Difference};
+use std::env;
+use std::io::{IsTerminal, Write, stderr};
+use std::process::ExitCode;
+use std::time::{Duration, Instant};
+
+const HELP: &str = "\
+compare/run [SOURCE] [--cases N] [--seed N] [--quick] [--only PLACE]
+
+Compares the proved library with the Rust of SOURCE (../shared/docs/src by default), through the C interface, on N made-up cases
+(1,000,000; --quick: 100,000). Each case is one call: its number, its answers and every entry of every lent buffer are compared,
+and so are refused calls, by the table of the rules. --only compares one case of the list that the seed starts, and shows it.
+The first difference that is not listed ends it, with the smallest case found that still differs, and exit status 1.";
+
+/// What to compare.
+struct Plan {
+    seed: u64,
+    cases: u64,
+    only: Option<u64>,
+}
+
+/// What has been compared.
+#[derive(Default)]
+struct Tally {
+    cases: u64,
+    entries: u64,
+    by_operation: [u64; OPERATIONS.len()],
+    by_number: [u64; 12],
+}
+
+fn main() -> ExitCode {
+    let words: Vec<String> = env::args().skip(1).collect();
+    let Some(plan) = plan(&words) else {
+        println!("{HELP}");
+        return if words == ["--help"] { ExitCode::SUCCESS } else { ExitCode::from(2) };
+    };
+    let mut comparison = Comparison::default();
+    let places = plan.only.map_or(0..plan.cases, |only| only..only + 1);
+    let mut tally = Tally::default();
+    let mut progress = Progress::new();
+    for place in places {
+        let case = random::case(plan.seed, place);
+        if plan.only.is_some() {
+            println!("{case}");
+        }
+        match comparison.compare(&case) {
+            Ok(seen) => {
+                tally.cases += 1;
+                tally.entries += seen.entries;
+                tally.by_operation[case.operation as usize] += 1;
+                tally.by_number[seen.number as usize] += 1;
+            }
+            Err(difference) => {
+                differs(&mut comparison, &plan, place, case, difference);
+                return ExitCode::FAILURE;
+            }
+        }
+        progress.show(&tally);
+    }
+    report(&plan, &tally, &comparison);
+    reached_all(&tally)
+}
+
+fn plan(words: &[String]) -> Option<Plan> {
+    let mut plan = Plan { seed: 1, cases: 1_000_000, only: None };
+    let mut words = words.iter();
+    while let Some(word) = words.next() {
+        let mut number = || words.next()?.parse().ok();
+        match word.as_str() {
+            "--seed" => plan.seed = number()?,
+            "--cases" => plan.cases = number()?,
+            "--only" => plan.only = Some(number()?),
+            "--quick" => plan.cases = 100_000,
+            _ => return None,
+        }
+    }
+    Some(plan)
+}
+
+/// Says what differs, in the smallest case that still does.
+fn differs(comparison: &mut Comparison, plan: &Plan, place: u64, case: Case, difference: Difference) {
+    println!("case {place} of seed {} differs (--seed {0} --only {place}): {difference}", plan.seed);
+    let (case, difference) = shrink::smallest(comparison, case, difference);
+    println!("\nthe smallest case found that differs:\n{case}");
+    for &buffer in case.operation.lent() {
+        let patterns = Comparison::lent(&case, buffer);
+        if patterns.len() <= 36 {
+            let patterns: Vec<String> = patterns.iter().map(|pattern| format!("{pattern:016x}")).collect();
+            println!("  {} holds {}", BUFFERS[buffer], patterns.join(" "));
+        }
+    }
+    println!("{difference}");
+}
+
+fn report(plan: &Plan, tally: &Tally, comparison: &Comparison) {
+    println!("seed {}", plan.seed);
+    for (operation, cases) in OPERATIONS.iter().zip(tally.by_operation) {
+        println!("  {:<18}{cases:>9} cases", format!("{operation:?}"));
+    }
+    for (number, cases) in tally.by_number.iter().enumerate() {
+        println!("  number {number:<11}{cases:>9} cases");
+    }
+    println!("listed differences: {} sums of -0.0 only", comparison.listed.sums);
+    println!("                    {} steady runs over a bad snapshot", comparison.listed.snapshots);
+    println!("compare: {} cases, {} entries compared, 0 differences that are not listed", tally.cases, tally.entries);
+}
+
+/// A long comparison that never met some number would say little.
+fn reached_all(tally: &Tally) -> ExitCode {
+    let missed: Vec<usize> = (0..12).filter(|&number| tally.by_number[number] == 0).collect();
+    if tally.cases >= 10_000 && !missed.is_empty() {
+        println!("compare: no case was answered with {missed:?}");
+        return ExitCode::FAILURE;
+    }
+    ExitCode::SUCCESS
+}
+
+/// How far it is, on a terminal.
+struct Progress {
+    began: Instant,
+    next: Duration,
+}
+
+impl Progress {
+    fn new() -> Progress {
+        Progress { began: Instant::now(), next: Duration::from_secs(1) }
+    }
+
+    fn show(&mut self, tally: &Tally) {
+        if !tally.cases.is_multiple_of(64) || self.began.elapsed() < self.next {
+            return;
+        }
+        self.next = self.began.elapsed() + Duration::from_secs(1);
+        if stderr().is_terminal() {
+            // Progress that cannot be shown is no reason to stop.
+            let _ = write!(stderr(), "\r\x1b[K{} cases, {} entries\r", tally.cases, tally.entries);
+        }
+    }
+}

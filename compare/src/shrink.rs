@@ -1,0 +1,56 @@
+//! Finds the smallest case like a given one that still differs.
+
+use crate::case::{Case, Start};
+use crate::comparison::{Comparison, Difference};
+use brothwagon::ffi;
+
+/// Takes any simpler case that still differs, until there is none.
+pub fn smallest(comparison: &mut Comparison, mut case: Case, mut difference: Difference) -> (Case, Difference) {
+    while let Some(found) =
+        simpler(&case).into_iter().find_map(|case| comparison.compare(&case).err().map(|difference| (case, difference)))
+    {
+        (case, difference) = found;
+    }
+    (case, difference)
+}
+
+/// Cases that are simpler in one thing, the boldest first.
+fn simpler(case: &Case) -> Vec<Case> {
+    let mut tries = Vec::new();
+    let mut with = |change: &dyn Fn(&mut Case)| {
+        let mut simpler = case.clone();
+        change(&mut simpler);
+        // By what they say, since a NaN is not equal to itself.
+        if simpler.to_string() != case.to_string() {
+            tries.push(simpler);
+        }
+    };
+    // None is more than what it starts from, so that this ends.
+    for less in [|n: u64| n.min(1), |n: u64| n / 2, |n: u64| n.saturating_sub(1)] {
+        with(&|case| case.settings.nx = less(case.settings.nx));
+        with(&|case| case.settings.ny = less(case.settings.ny));
+        with(&|case| case.steps = less(case.steps));
+    }
+    for at in 0..4 {
+        with(&|case| *case.face_mut(at) = ffi::Face::default());
+        if case.faces()[at].kind > 1 {
+            with(&|case| *case.face_mut(at) = ffi::Face { kind: 1, a: 0.0, b: 0.0 });
+            with(&|case| (case.face_mut(at).a, case.face_mut(at).b) = (0.1, 0.0));
+            with(&|case| case.face_mut(at).b = 0.0);
+        }
+    }
+    with(&|case| (case.settings.fx, case.settings.fy) = (0.0, 0.0));
+    with(&|case| case.settings.fx = 0.0);
+    with(&|case| case.settings.fy = 0.0);
+    with(&|case| (case.settings.collision, case.settings.rate, case.magic) = (0, 0.0, None));
+    with(&|case| (case.settings.nu, case.magic) = (0.5, None));
+    with(&|case| case.start = Start::Flow);
+    with(&|case| case.seed = 0);
+    with(&|case| case.extra = [0; 4]);
+    with(&|case| (case.x, case.y) = (0, 0));
+    with(&|case| case.direction = 0);
+    with(&|case| (case.ex, case.ey) = (0, 0));
+    with(&|case| case.check_every = 1);
+    with(&|case| case.tolerance = 0.0);
+    tries
+}

@@ -1,0 +1,186 @@
+//! The C interface (include/brothwagon.h), each function as a safe one over slices.
+//!
+//! [`Study`](crate::Study) stands on these. They answer the bare number, and take settings as the library reads them, kinds
+//! that it does not know included: for hosts that lend buffers of their own.
+
+/// One face, as the library reads it: [`Face`](crate::Face) has the meaning of each kind.
+#[repr(C)]
+#[derive(Clone, Copy, Debug, Default, PartialEq)]
+pub struct Face {
+    /// 0 Periodic, 1 NoSlip, 2 MovingWall, 3 Symmetry, 4 Velocity, 5 Pressure; any other is refused with 5.
+    pub kind: u64,
+    /// The kind's first number, where it has one.
+    pub a: f64,
+    /// The kind's second number, where it has one.
+    pub b: f64,
+}
+
+/// Settings, as the library reads them: [`Settings`](crate::Settings) has the meaning of each field.
+#[allow(missing_docs)]
+#[repr(C)]
+#[derive(Clone, Copy, Debug, Default, PartialEq)]
+pub struct Settings {
+    pub nx: u64,
+    pub ny: u64,
+    pub nu: f64,
+    pub fx: f64,
+    pub fy: f64,
+    /// 0 Bgk, 1 Mrt, 2 Trt; any other is refused with 3 where there is a collision.
+    pub collision: u64,
+    /// The minus rate, of Trt alone.
+    pub rate: f64,
+    pub x_min: Face,
+    pub x_max: Face,
+    pub y_min: Face,
+    pub y_max: Face,
+}
+
+// The library reads the settings as 19 words.
+const _: () = assert!(size_of::<Settings>() == 19 * 8);
+
+/// What a small answer array holds before the call, so that an answer that was not written shows.
+const UNWRITTEN: u64 = u64::MAX;
+
+mod c {
+    use super::Settings;
+
+    unsafe extern "C" {
+        pub fn brothwagon_initialize(s: *const Settings, table: *const f64, tables: usize, f: *mut f64, fs: usize) -> u32;
+        pub fn brothwagon_density(s: *const Settings, f: *const f64, fs: usize, x: usize, y: usize, rho: *mut f64) -> u32;
+        pub fn brothwagon_velocity(s: *const Settings, f: *const f64, fs: usize, x: usize, y: usize, u: *mut f64) -> u32;
+        pub fn brothwagon_velocity_field(s: *const Settings, f: *const f64, fs: usize, u: *mut f64, us: usize) -> u32;
+        pub fn brothwagon_total_mass(s: *const Settings, f: *const f64, fs: usize, mass: *mut f64) -> u32;
+        pub fn brothwagon_kinetic_energy(s: *const Settings, f: *const f64, fs: usize, energy: *mut f64) -> u32;
+        pub fn brothwagon_plane(s: *const Settings, f: *const f64, fs: usize, direction: usize, part: *mut u64) -> u32;
+        pub fn brothwagon_stream_with_faces(s: *const Settings, post: *const f64, posts: usize, f: *mut f64, fs: usize) -> u32;
+        pub fn brothwagon_lossless(s: *const Settings, answer: *mut u64) -> u32;
+        pub fn brothwagon_reverse(s: *const Settings, f: *const f64, fs: usize, post: *mut f64, posts: usize) -> u32;
+        pub fn brothwagon_step(s: *const Settings, f: *mut f64, fs: usize, post: *mut f64, posts: usize) -> u32;
+        pub fn brothwagon_run(s: *const Settings, steps: u64, f: *mut f64, fs: usize, post: *mut f64, posts: usize) -> u32;
+        pub fn brothwagon_run_to_steady_state(
+            s: *const Settings,
+            tolerance: f64,
+            max_steps: u64,
+            check_every: u64,
+            f: *mut f64,
+            fs: usize,
+            post: *mut f64,
+            posts: usize,
+            u: *mut f64,
+            us: usize,
+            answer: *mut u64,
+        ) -> u32;
+        pub fn brothwagon_dir_index(ex: i32, ey: i32, direction: *mut u64) -> u32;
+    }
+}
+
+// Safety, of every call below: each pointer is to a live slice, array or struct, with its own length beside it where the
+// header has one; what the library writes is borrowed as `&mut`, so nothing overlaps; and every bit pattern is an f64.
+
+/// Fills `f` with the equilibria of the table.
+pub fn initialize(s: &Settings, table: &[f64], f: &mut [f64]) -> u32 {
+    unsafe { c::brothwagon_initialize(s, table.as_ptr(), table.len(), f.as_mut_ptr(), f.len()) }
+}
+
+/// The number, and the density of one cell.
+pub fn density(s: &Settings, f: &[f64], x: usize, y: usize) -> (u32, f64) {
+    let mut rho = f64::from_bits(UNWRITTEN);
+    let number = unsafe { c::brothwagon_density(s, f.as_ptr(), f.len(), x, y, &mut rho) };
+    (number, rho)
+}
+
+/// The number, and the velocity of one cell.
+pub fn velocity(s: &Settings, f: &[f64], x: usize, y: usize) -> (u32, [f64; 2]) {
+    let mut u = [f64::from_bits(UNWRITTEN); 2];
+    let number = unsafe { c::brothwagon_velocity(s, f.as_ptr(), f.len(), x, y, u.as_mut_ptr()) };
+    (number, u)
+}
+
+/// The velocity of every cell, into `u`.
+pub fn velocity_field(s: &Settings, f: &[f64], u: &mut [f64]) -> u32 {
+    unsafe { c::brothwagon_velocity_field(s, f.as_ptr(), f.len(), u.as_mut_ptr(), u.len()) }
+}
+
+/// The number, and the sum of all densities.
+pub fn total_mass(s: &Settings, f: &[f64]) -> (u32, f64) {
+    let mut mass = f64::from_bits(UNWRITTEN);
+    let number = unsafe { c::brothwagon_total_mass(s, f.as_ptr(), f.len(), &mut mass) };
+    (number, mass)
+}
+
+/// The number, and the kinetic energy.
+pub fn kinetic_energy(s: &Settings, f: &[f64]) -> (u32, f64) {
+    let mut energy = f64::from_bits(UNWRITTEN);
+    let number = unsafe { c::brothwagon_kinetic_energy(s, f.as_ptr(), f.len(), &mut energy) };
+    (number, energy)
+}
+
+/// The number, and the start and count of one direction's entries in `f`.
+pub fn plane(s: &Settings, f: &[f64], direction: usize) -> (u32, [u64; 2]) {
+    let mut part = [UNWRITTEN; 2];
+    let number = unsafe { c::brothwagon_plane(s, f.as_ptr(), f.len(), direction, part.as_mut_ptr()) };
+    (number, part)
+}
+
+/// Streams `post` into `f`, then applies the faces.
+pub fn stream_with_faces(s: &Settings, post: &[f64], f: &mut [f64]) -> u32 {
+    unsafe { c::brothwagon_stream_with_faces(s, post.as_ptr(), post.len(), f.as_mut_ptr(), f.len()) }
+}
+
+/// The number, and 1 if the faces are lossless, else 0 and the lowest lost entry's x, y and direction.
+pub fn lossless(s: &Settings) -> (u32, [u64; 4]) {
+    let mut answer = [UNWRITTEN; 4];
+    let number = unsafe { c::brothwagon_lossless(s, answer.as_mut_ptr()) };
+    (number, answer)
+}
+
+/// Leaves in `post` what streaming with faces makes `f` of.
+pub fn reverse(s: &Settings, f: &[f64], post: &mut [f64]) -> u32 {
+    unsafe { c::brothwagon_reverse(s, f.as_ptr(), f.len(), post.as_mut_ptr(), post.len()) }
+}
+
+/// One step.
+pub fn step(s: &Settings, f: &mut [f64], post: &mut [f64]) -> u32 {
+    unsafe { c::brothwagon_step(s, f.as_mut_ptr(), f.len(), post.as_mut_ptr(), post.len()) }
+}
+
+/// So many steps.
+pub fn run(s: &Settings, steps: u64, f: &mut [f64], post: &mut [f64]) -> u32 {
+    unsafe { c::brothwagon_run(s, steps, f.as_mut_ptr(), f.len(), post.as_mut_ptr(), post.len()) }
+}
+
+/// The number, and 1 if settled, the number of steps taken and the residual's pattern.
+pub fn run_to_steady_state(
+    s: &Settings,
+    tolerance: f64,
+    max_steps: u64,
+    check_every: u64,
+    f: &mut [f64],
+    post: &mut [f64],
+    u: &mut [f64],
+) -> (u32, [u64; 3]) {
+    let mut answer = [UNWRITTEN; 3];
+    let number = unsafe {
+        c::brothwagon_run_to_steady_state(
+            s,
+            tolerance,
+            max_steps,
+            check_every,
+            f.as_mut_ptr(),
+            f.len(),
+            post.as_mut_ptr(),
+            post.len(),
+            u.as_mut_ptr(),
+            u.len(),
+            answer.as_mut_ptr(),
+        )
+    };
+    (number, answer)
+}
+
+/// The number, and the direction with these components.
+pub fn dir_index(ex: i32, ey: i32) -> (u32, u64) {
+    let mut direction = UNWRITTEN;
+    let number = unsafe { c::brothwagon_dir_index(ex, ey, &mut direction) };
+    (number, direction)
+}

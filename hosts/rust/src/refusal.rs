@@ -1,0 +1,110 @@
+use std::error::Error;
+use std::fmt;
+
+/// Why a call was refused. A refused call has written nothing, but for [`Refusal::BadSnapshot`].
+#[derive(Clone, Copy, Debug, PartialEq, Eq)]
+pub enum Refusal {
+    /// 1: a side or the cell count is outside its range.
+    Sides,
+    /// 2: a lent buffer has the wrong length.
+    Length,
+    /// 3: the relaxation time or a Trt minus rate is outside its range.
+    Rate,
+    /// 4: a force component is not finite.
+    Force,
+    /// 5: a face carries a number that it cannot have.
+    Face,
+    /// 6: x, y or direction outside.
+    Place,
+    /// 7: the lossless question or the reverse meets a face that does more than copy.
+    NotCopying,
+    /// 8: reverse on faces that are not lossless.
+    Lossy,
+    /// 9: a steady run's snapshot is not finite. The state is as after that many steps.
+    BadSnapshot {
+        /// Steps taken: 0 if the first snapshot is bad.
+        steps: u64,
+    },
+    /// 10: the tolerance is NaN, or there are more steps than one run may take.
+    Run,
+    /// 11: two components that are no direction's.
+    NoDirection,
+}
+
+/// Every refusal, in the order of the numbers.
+const ALL: [Refusal; 11] = [
+    Refusal::Sides,
+    Refusal::Length,
+    Refusal::Rate,
+    Refusal::Force,
+    Refusal::Face,
+    Refusal::Place,
+    Refusal::NotCopying,
+    Refusal::Lossy,
+    Refusal::BadSnapshot { steps: 0 },
+    Refusal::Run,
+    Refusal::NoDirection,
+];
+
+impl Refusal {
+    /// What the library's number says of a call: done, or refused.
+    pub(crate) fn of(number: u32) -> Result<(), Refusal> {
+        match number {
+            0 => Ok(()),
+            _ => Err(ALL[number as usize - 1]),
+        }
+    }
+
+    /// The library's number for it.
+    pub fn number(self) -> u32 {
+        self.row().0
+    }
+
+    /// Its number and what that means.
+    fn row(self) -> (u32, &'static str) {
+        match self {
+            Refusal::Sides => (1, "a side or the cell count is outside its range (sides 1 to 4,096, at most 1,048,576 cells)"),
+            Refusal::Length => (2, "a lent buffer has the wrong length"),
+            Refusal::Rate => {
+                (3, "3·viscosity + 0.5 is not finite or below 0.5, or a Trt minus rate is not finite, below 0 or above 2")
+            }
+            Refusal::Force => (4, "a force component is not finite"),
+            Refusal::Face => {
+                (5, "a face number is not finite, a Pressure density is not above 0, or a Velocity face has 1 - un equal to 0")
+            }
+            Refusal::Place => (6, "x, y or direction outside"),
+            Refusal::NotCopying => (7, "the lossless question or the reverse meets MovingWall, Velocity or Pressure"),
+            Refusal::Lossy => (8, "reverse on faces that are not lossless"),
+            Refusal::BadSnapshot { .. } => (9, "a snapshot has a velocity component that is not finite"),
+            Refusal::Run => (10, "the tolerance is NaN, or there are more than 1,000,000 steps"),
+            Refusal::NoDirection => (11, "the two components are those of no direction"),
+        }
+    }
+}
+
+impl fmt::Display for Refusal {
+    fn fmt(&self, out: &mut fmt::Formatter) -> fmt::Result {
+        let (number, meaning) = self.row();
+        write!(out, "refused with number {number}: {meaning}")?;
+        match self {
+            Refusal::BadSnapshot { steps } => write!(out, ", after {steps} steps"),
+            _ => Ok(()),
+        }
+    }
+}
+
+impl Error for Refusal {}
+
+#[cfg(test)]
+mod tests {
+    use super::*;
+
+    #[test]
+    fn each_number_has_its_refusal() {
+        for (number, refusal) in (1..).zip(ALL) {
+            assert_eq!(refusal.number(), number);
+            assert_eq!(Refusal::of(number), Err(refusal));
+        }
+        assert_eq!(Refusal::of(0), Ok(()));
+    }
+}

@@ -1,0 +1,196 @@
+use crate::{Refusal, Settings, ffi};
+
+/// Settings and the buffers that go with them.
+///
+/// Entry (x, y, i) of the populations and of the post-collision buffer stands at `x + y * nx + i * nx * ny`. A new study's
+/// buffers hold zeros.
+#[derive(Clone, Debug)]
+pub struct Study {
+    settings: Settings,
+    f: Vec<f64>,
+    post: Vec<f64>,
+    u: Vec<f64>,
+}
+
+/// Whether streaming with faces copies every post-collision entry.
+#[derive(Clone, Copy, Debug, PartialEq, Eq)]
+pub enum Lossless {
+    /// It does.
+    Lossless,
+    /// It does not: this is the entry with the smallest index that no final entry is copied from.
+    Lossy {
+        /// The entry's column.
+        x: usize,
+        /// The entry's row.
+        y: usize,
+        /// The entry's direction.
+        direction: usize,
+    },
+}
+
+/// How a steady run ended.
+#[derive(Clone, Copy, Debug, PartialEq)]
+pub struct Steady {
+    /// Whether the last residual was below the tolerance; else the steps ran out.
+    pub settled: bool,
+    /// Steps taken.
+    pub steps: u64,
+    /// The last residual; infinite if no check took place.
+    pub residual: f64,
+}
+
+impl Study {
+    /// A study with its buffers; refused where the sides are.
+    pub fn new(settings: Settings) -> Result<Study, Refusal> {
+        // The library alone knows the limits of the sides: an empty buffer has the wrong length on every grid, so this is
+        // refused with 2 where the sides are good, and with 1 where they are not.
+        if let (1, _) = ffi::total_mass(&(&settings).into(), &[]) {
+            return Err(Refusal::Sides);
+        }
+        let cells = settings.nx * settings.ny;
+        Ok(Study { settings, f: vec![0.0; 9 * cells], post: vec![0.0; 9 * cells], u: vec![0.0; 2 * cells] })
+    }
+
+    /// The settings as the library reads them.
+    fn words(&self) -> ffi::Settings {
+        (&self.settings).into()
+    }
+
+    /// The settings.
+    pub fn settings(&self) -> &Settings {
+        &self.settings
+    }
+
+    /// Takes other settings from here on, with the same sides: the buffers are for those.
+    pub fn change(&mut self, settings: Settings) -> Result<(), Refusal> {
+        if (settings.nx, settings.ny) != (self.settings.nx, self.settings.ny) {
+            return Err(Refusal::Length);
+        }
+        self.settings = settings;
+        Ok(())
+    }
+
+    /// The populations.
+    pub fn f(&self) -> &[f64] {
+        &self.f
+    }
+
+    /// The populations, to be written.
+    pub fn f_mut(&mut self) -> &mut [f64] {
+        &mut self.f
+    }
+
+    /// The post-collision buffer.
+    pub fn post(&self) -> &[f64] {
+        &self.post
+    }
+
+    /// The post-collision buffer, to be written.
+    pub fn post_mut(&mut self) -> &mut [f64] {
+        &mut self.post
+    }
+
+    /// Fills the populations with the equilibria of a table: density, ux and uy of cell (x, y) at `3 * (x + y * nx)`.
+    pub fn initialize(&mut self, table: &[f64]) -> Result<(), Refusal> {
+        Refusal::of(ffi::initialize(&self.words(), table, &mut self.f))
+    }
+
+    /// Fills the populations with the equilibria of what `cell` says of each x and y: density, ux and uy.
+    pub fn initialize_with(&mut self, cell: impl Fn(usize, usize) -> [f64; 3]) -> Result<(), Refusal> {
+        let Settings { nx, ny, .. } = self.settings;
+        let table: Vec<f64> = (0..ny).flat_map(|y| (0..nx).map(move |x| (x, y))).flat_map(|(x, y)| cell(x, y)).collect();
+        self.initialize(&table)
+    }
+
+    /// Fills the populations with one equilibrium.
+    pub fn initialize_uniform(&mut self, rho: f64, ux: f64, uy: f64) -> Result<(), Refusal> {
+        self.initialize_with(|_, _| [rho, ux, uy])
+    }
+
+    /// The density of one cell.
+    pub fn density(&self, x: usize, y: usize) -> Result<f64, Refusal> {
+        let (number, rho) = ffi::density(&self.words(), &self.f, x, y);
+        Refusal::of(number).map(|()| rho)
+    }
+
+    /// The velocity of one cell.
+    pub fn velocity(&self, x: usize, y: usize) -> Result<[f64; 2], Refusal> {
+        let (number, u) = ffi::velocity(&self.words(), &self.f, x, y);
+        Refusal::of(number).map(|()| u)
+    }
+
+    /// The velocity of every cell: the two components of cell (x, y) at `2 * (x + y * nx)`.
+    pub fn velocity_field(&mut self) -> Result<&[f64], Refusal> {
+        Refusal::of(ffi::velocity_field(&self.words(), &self.f, &mut self.u)).map(|()| &self.u[..])
+    }
+
+    /// The velocity buffer: what the last velocity field or snapshot of a steady run left there.
+    pub fn snapshot(&self) -> &[f64] {
+        &self.u
+    }
+
+    /// The sum of all densities.
+    pub fn total_mass(&self) -> Result<f64, Refusal> {
+        let (number, mass) = ffi::total_mass(&self.words(), &self.f);
+        Refusal::of(number).map(|()| mass)
+    }
+
+    /// The kinetic energy of all cells.
+    pub fn kinetic_energy(&self) -> Result<f64, Refusal> {
+        let (number, energy) = ffi::kinetic_energy(&self.words(), &self.f);
+        Refusal::of(number).map(|()| energy)
+    }
+
+    /// All populations of one direction.
+    pub fn plane(&self, direction: usize) -> Result<&[f64], Refusal> {
+        let (number, [start, count]) = ffi::plane(&self.words(), &self.f, direction);
+        Refusal::of(number).map(|()| &self.f[start as usize..][..count as usize])
+    }
+
+    /// Streams the post-collision buffer into the populations, then applies the faces.
+    pub fn stream_with_faces(&mut self) -> Result<(), Refusal> {
+        Refusal::of(ffi::stream_with_faces(&self.words(), &self.post, &mut self.f))
+    }
+
+    /// Whether streaming with faces loses an entry.
+    pub fn lossless(&self) -> Result<Lossless, Refusal> {
+        let (number, [lossless, x, y, direction]) = ffi::lossless(&self.words());
+        Refusal::of(number).map(|()| match lossless {
+            1 => Lossless::Lossless,
+            _ => Lossless::Lossy { x: x as usize, y: y as usize, direction: direction as usize },
+        })
+    }
+
+    /// Leaves in the post-collision buffer what streaming with faces makes these populations of.
+    pub fn reverse(&mut self) -> Result<(), Refusal> {
+        Refusal::of(ffi::reverse(&self.words(), &self.f, &mut self.post))
+    }
+
+    /// One step: collides, then streams with faces.
+    pub fn step(&mut self) -> Result<(), Refusal> {
+        Refusal::of(ffi::step(&self.words(), &mut self.f, &mut self.post))
+    }
+
+    /// So many steps.
+    pub fn run(&mut self, steps: u64) -> Result<(), Refusal> {
+        Refusal::of(ffi::run(&self.words(), steps, &mut self.f, &mut self.post))
+    }
+
+    /// Steps until the velocities change by less than the tolerance from one check to the next, relative to the highest.
+    pub fn run_to_steady_state(&mut self, tolerance: f64, max_steps: u64, check_every: u64) -> Result<Steady, Refusal> {
+        let (words, f, post, u) = (self.words(), &mut self.f, &mut self.post, &mut self.u);
+        let (number, [settled, steps, residual]) =
+            ffi::run_to_steady_state(&words, tolerance, max_steps, check_every, f, post, u);
+        match Refusal::of(number) {
+            Ok(()) => Ok(Steady { settled: settled == 1, steps, residual: f64::from_bits(residual) }),
+            Err(Refusal::BadSnapshot { .. }) => Err(Refusal::BadSnapshot { steps }),
+            Err(refusal) => Err(refusal),
+        }
+    }
+}
+
+/// The direction with these two components.
+pub fn dir_index(ex: i32, ey: i32) -> Result<usize, Refusal> {
+    let (number, direction) = ffi::dir_index(ex, ey);
+    Refusal::of(number).map(|()| direction as usize)
+}

@@ -1,0 +1,144 @@
+/* Brothwagon: the D2Q9 lattice Boltzmann solver, proved. For C (C99 or later) and C++.
+ *
+ * Every function answers a number:
+ *
+ *    0  done
+ *    1  a side or the cell count is outside its range: sides 1 to 4,096, at most 1,048,576 cells
+ *    2  a lent buffer has the wrong length
+ *    3  3 nu + 0.5 is not finite or below 0.5; or a Trt rate is not finite, below 0 or above 2
+ *    4  a force component is not finite
+ *    5  a face number is not finite; a Pressure density is not above 0; or a Velocity face has 1 - un equal to 0
+ *    6  x, y or direction outside
+ *    7  the lossless question or the reverse meets MovingWall, Velocity or Pressure
+ *    8  the reverse on faces that are not lossless
+ *    9  steady run: a snapshot has a velocity component that is not finite
+ *   10  the tolerance is NaN, or there are more than 1,000,000 steps
+ *   11  the direction lookup is given two components that are no row of E
+ *
+ * They are tested in the order 1, 2, 3, 4, 5, 10, 6, 7, 8, 11, and the first that applies is answered. Each function below
+ * lists the ones that it tests; no other is answered. A refused call (any number but 0, and 9 apart) writes to no lent buffer,
+ * and leaves zeros in its small answer array, which every call writes.
+ *
+ * Buffers. Entry (x, y, i) of the populations f and of the post-collision buffer stands at x + y nx + i nx ny: each has
+ * 9 nx ny entries. A velocity buffer has 2 nx ny, a cell's two components at 2 (x + y nx). An initial table has 3 nx ny, a
+ * cell's density, ux and uy at 3 (x + y nx). The length beside a pointer counts entries. Lent buffers do not overlap. Entries
+ * may hold any bits; a copied entry keeps all of them, and a NaN that arithmetic makes is stored as 0x7ff8000000000000.
+ */
+#ifndef BROTHWAGON_H
+#define BROTHWAGON_H
+
+#include <stddef.h>
+#include <stdint.h>
+
+#ifdef __cplusplus
+extern "C" {
+#endif
+
+/* The kinds of a face. A number that a kind does not carry is not looked at. Any other kind gives 5. */
+enum {
+    BROTHWAGON_PERIODIC = 0,
+    BROTHWAGON_NO_SLIP = 1,
+    BROTHWAGON_MOVING_WALL = 2, /* a, b: the wall's velocity */
+    BROTHWAGON_SYMMETRY = 3,
+    BROTHWAGON_VELOCITY = 4, /* a, b: the velocity */
+    BROTHWAGON_PRESSURE = 5  /* a: the density */
+};
+
+typedef struct {
+    uint64_t kind;
+    double a, b;
+} brothwagon_face;
+
+/* The kinds of collision. Any other kind gives 3 where there is a collision. */
+enum {
+    BROTHWAGON_BGK = 0,
+    BROTHWAGON_MRT = 1,
+    BROTHWAGON_TRT = 2 /* rate: the minus rate */
+};
+
+typedef struct {
+    uint64_t nx, ny;
+    double nu;     /* kinematic viscosity */
+    double fx, fy; /* body force */
+    uint64_t collision;
+    double rate; /* of Trt alone */
+    brothwagon_face x_min, x_max, y_min, y_max;
+} brothwagon_settings; /* 19 words of 8 bytes */
+
+/* Fills f with the equilibria of the table's densities and velocities.
+ * Numbers 1, 2. */
+uint32_t brothwagon_initialize(const brothwagon_settings *settings, const double *table, size_t table_length, double *f,
+                               size_t f_length);
+
+/* The density of one cell.
+ * Numbers 1, 2, 6; then rho is 0. */
+uint32_t brothwagon_density(const brothwagon_settings *settings, const double *f, size_t f_length, size_t x, size_t y,
+                            double rho[1]);
+
+/* The velocity of one cell, half the force included; (0, 0) where the density is below 1e-12.
+ * Numbers 1, 2, 4, 6; then u is (0, 0). */
+uint32_t brothwagon_velocity(const brothwagon_settings *settings, const double *f, size_t f_length, size_t x, size_t y,
+                             double u[2]);
+
+/* The velocity of every cell, into u.
+ * Numbers 1, 2, 4; then u is as it was. */
+uint32_t brothwagon_velocity_field(const brothwagon_settings *settings, const double *f, size_t f_length, double *u,
+                                   size_t u_length);
+
+/* The sum of all densities.
+ * Numbers 1, 2; then mass is 0. */
+uint32_t brothwagon_total_mass(const brothwagon_settings *settings, const double *f, size_t f_length, double mass[1]);
+
+/* The sum of 0.5 rho |u|^2 over all cells.
+ * Numbers 1, 2, 4; then energy is 0. */
+uint32_t brothwagon_kinetic_energy(const brothwagon_settings *settings, const double *f, size_t f_length, double energy[1]);
+
+/* Where all entries of one direction stand in f: part is {start, count}.
+ * Numbers 1, 2, 6; then part is {0, 0}. */
+uint32_t brothwagon_plane(const brothwagon_settings *settings, const double *f, size_t f_length, size_t direction,
+                          uint64_t part[2]);
+
+/* Streams post into f, then applies the faces x min, x max, y min, y max. post is only read.
+ * Numbers 1, 2, 5; then f is as it was. */
+uint32_t brothwagon_stream_with_faces(const brothwagon_settings *settings, const double *post, size_t post_length, double *f,
+                                      size_t f_length);
+
+/* Whether streaming with faces copies every post-collision entry: answer is {1, 0, 0, 0} if it does, else {0, x, y, i} of the
+ * entry with the smallest index that no final entry is copied from.
+ * Numbers 1, 5, 7; then answer is {0, 0, 0, 0}. */
+uint32_t brothwagon_lossless(const brothwagon_settings *settings, uint64_t answer[4]);
+
+/* Leaves in post the one post-collision buffer from which streaming with faces gives f. f is only read.
+ * Numbers 1, 2, 5, 7, 8; then post is as it was. */
+uint32_t brothwagon_reverse(const brothwagon_settings *settings, const double *f, size_t f_length, double *post,
+                            size_t post_length);
+
+/* One step: collides f into post, then streams post into f with faces. post keeps the post-collision state.
+ * Numbers 1, 2, 3, 4, 5; then f and post are as they were. */
+uint32_t brothwagon_step(const brothwagon_settings *settings, double *f, size_t f_length, double *post, size_t post_length);
+
+/* So many steps; 0 leaves both buffers as they are.
+ * Numbers 1, 2, 3, 4, 5, 10; then f and post are as they were. */
+uint32_t brothwagon_run(const brothwagon_settings *settings, uint64_t steps, double *f, size_t f_length, double *post,
+                        size_t post_length);
+
+/* Steps until the velocities settle. A snapshot of them is taken first, and after each step whose number check_every divides
+ * (0 counts as 1); the residual is then max|change| over max|u|, or max|change| if max|u| is 0.
+ * answer is {1, steps, residual} once a residual is below the tolerance, else {0, max_steps, last residual}, the residual as
+ * its 64-bit pattern, and infinite if no check took place; u holds the last snapshot.
+ * Numbers 1, 2, 3, 4, 5, 10; then f, post and u are as they were and answer is {0, 0, 0}.
+ * Number 9 where a snapshot is not finite: answer is {0, steps taken, 0}; f and post are as after that step, and u keeps the
+ * last good snapshot, or is as it was if the first is bad. */
+uint32_t brothwagon_run_to_steady_state(const brothwagon_settings *settings, double tolerance, uint64_t max_steps,
+                                        uint64_t check_every, double *f, size_t f_length, double *post, size_t post_length,
+                                        double *u, size_t u_length, uint64_t answer[3]);
+
+/* The direction with these two components.
+ * Number 11; then direction is 0. */
+uint32_t brothwagon_dir_index(int32_t ex, int32_t ey, uint64_t direction[1]);
+
+#ifdef __cplusplus
+}
+#endif
+
+#endif
