@@ -1,0 +1,55 @@
+-- What the exported functions leave with a host: the outcomes of the operations, with every value of an answer as a word.
+-- Assumes nothing.
+use mathlib.Core.Bool.{Bool, cond}
+use mathlib.Core.List.{List, [], _∷_}
+use Prim.Native.Nat.{ℕ}
+use lib.ListN.{length}
+use Rattle.number.specs.Number.{patternOf}
+use Rattle.lattice.specs.declared.Found.{Found}
+use Rattle.settings.specs.declared.Settings.{Settings}
+use Rattle.settings.specs.Refusals as Call
+use Rattle.settings.specs.Refusals.{refusal}
+use Rattle.settings.specs.Outcome.{Written}
+use Rattle.lossless.specs.declared.Answer.{Answer}
+use Rattle.lossless.specs.Lossless as Lossless
+use Rattle.readings.specs.declared.Reading.{Reading}
+use Rattle.readings.specs.declared.VelocityReading.{VelocityReading}
+use Rattle.readings.specs.Readings.{planeStart, planeLength}
+use Rattle.runs.specs.Steady.{Values, SteadyRun}
+
+-- ---- a number, and a small buffer with the answer, which every call writes
+
+abbrev pub readingTold : Reading → Written
+readingTold r = record { number = r .number; buffer = patternOf (r .value) ∷ [] }
+
+abbrev pub velocityTold : VelocityReading → Written
+velocityTold r = record { number = r .number; buffer = patternOf (r .ux) ∷ patternOf (r .uy) ∷ [] }
+
+-- where the plane of direction i starts in f, and how many entries it has
+abbrev pub planeTold : Settings → List ℕ → ℕ → Written
+planeTold s f i = record {
+  number = refusal (Call.plane s (length f) i);
+  buffer = planeStart s f i ∷ planeLength s f i ∷ [];
+}
+
+abbrev pub losslessTold : Answer → Written
+losslessTold a = record { number = Lossless.numberOf a; buffer = Lossless.valuesOf a }
+
+abbrev pub directionTold : Found → Written
+directionTold r = record { number = r .number; buffer = r .direction ∷ [] }
+
+-- ---- the steady run: the number, the answer, and the three buffers
+
+pub record SteadyTold : Type 0 where
+  pub number : ℕ
+  pub answer : List ℕ
+  pub f : List ℕ
+  pub post : List ℕ
+  pub u : List ℕ
+
+-- settled 1 or 0, the steps, and the residual's pattern
+abbrev pub words : Values → List ℕ
+words v = cond (v .settled) 1 0 ∷ v .steps ∷ patternOf (v .residual) ∷ []
+
+abbrev pub steadyTold : SteadyRun → SteadyTold
+steadyTold r = record { number = r .number; answer = words (r .values); f = r .f; post = r .post; u = r .u }

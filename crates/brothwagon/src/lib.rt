@@ -1,0 +1,194 @@
+// The library for hosts in other languages: each function takes the settings as nineteen words and asks one operation.
+// include/brothwagon.h is its face in C. What a host lends for a small answer is always written, with zeros on a refusal.
+use lossless::Answer;
+use runs::Steady;
+ghost use mathlib.Core.Path.{_≡_};
+ghost use Rattle.lattice.specs.Lookup.{dirIndexOf};
+ghost use Rattle.settings.specs.Outcome.{Written};
+ghost use Rattle.streaming.specs.Streaming.{streamedWithFaces};
+ghost use Rattle.lossless.specs.Lossless.{losslessOf, reversedOf};
+ghost use Rattle.readings.specs.Readings.{initialized, densityRead, velocityRead, velocityFieldRead, totalMassRead, kineticEnergyRead};
+ghost use Rattle.runs.specs.Steps.{Stepped, stepOf, runOf};
+ghost use Rattle.runs.specs.Steady.{steadyOf};
+ghost use Rattle.host.specs.Host.{settingsOf};
+ghost use Rattle.brothwagon.specs.Exported.{readingTold, velocityTold, planeTold, losslessTold, directionTold, SteadyTold, steadyTold};
+
+// ---- the start and the readings
+
+#[no_mangle]
+pub extern "C" fn brothwagon_initialize(w: &[u64; 19], table: &[u64], f: &mut [u64]) -> u32
+    ensures { λ r. ⌜ _≡_ {A = Written} (record { number = r; buffer = now (f .exit) }) (initialized (settingsOf (now (w .entry))) (now (table .entry)) (now (f .entry))) ⌝ }
+{
+    readings::initialize(host::settings_of(w), table, f)
+}
+
+#[no_mangle]
+pub extern "C" fn brothwagon_density(
+    w: &[u64; 19],
+    f: &[u64],
+    x: usize,
+    y: usize,
+    rho: &mut [u64; 1],
+) -> u32
+    ensures { λ r. ⌜ _≡_ {A = Written} (record { number = r; buffer = now (rho .exit) }) (readingTold (densityRead (settingsOf (now (w .entry))) (now (f .entry)) x y)) ⌝ }
+{
+    let r = readings::density(host::settings_of(w), f, x, y);
+    *rho = [number::pattern(r.value)];
+    r.number
+}
+
+#[no_mangle]
+pub extern "C" fn brothwagon_velocity(
+    w: &[u64; 19],
+    f: &[u64],
+    x: usize,
+    y: usize,
+    u: &mut [u64; 2],
+) -> u32
+    ensures { λ r. ⌜ _≡_ {A = Written} (record { number = r; buffer = now (u .exit) }) (velocityTold (velocityRead (settingsOf (now (w .entry))) (now (f .entry)) x y)) ⌝ }
+{
+    let r = readings::velocity(host::settings_of(w), f, x, y);
+    *u = [number::pattern(r.ux), number::pattern(r.uy)];
+    r.number
+}
+
+#[no_mangle]
+pub extern "C" fn brothwagon_velocity_field(w: &[u64; 19], f: &[u64], u: &mut [u64]) -> u32
+    ensures { λ r. ⌜ _≡_ {A = Written} (record { number = r; buffer = now (u .exit) }) (velocityFieldRead (settingsOf (now (w .entry))) (now (f .entry)) (now (u .entry))) ⌝ }
+{
+    readings::velocity_field(host::settings_of(w), f, u)
+}
+
+#[no_mangle]
+pub extern "C" fn brothwagon_total_mass(w: &[u64; 19], f: &[u64], mass: &mut [u64; 1]) -> u32
+    ensures { λ r. ⌜ _≡_ {A = Written} (record { number = r; buffer = now (mass .exit) }) (readingTold (totalMassRead (settingsOf (now (w .entry))) (now (f .entry)))) ⌝ }
+{
+    let r = readings::total_mass(host::settings_of(w), f);
+    *mass = [number::pattern(r.value)];
+    r.number
+}
+
+#[no_mangle]
+pub extern "C" fn brothwagon_kinetic_energy(w: &[u64; 19], f: &[u64], energy: &mut [u64; 1]) -> u32
+    ensures { λ r. ⌜ _≡_ {A = Written} (record { number = r; buffer = now (energy .exit) }) (readingTold (kineticEnergyRead (settingsOf (now (w .entry))) (now (f .entry)))) ⌝ }
+{
+    let r = readings::kinetic_energy(host::settings_of(w), f);
+    *energy = [number::pattern(r.value)];
+    r.number
+}
+
+// A part of f cannot cross: where it starts and how many entries it has stand for it.
+#[no_mangle]
+pub extern "C" fn brothwagon_plane(
+    w: &[u64; 19],
+    f: &[u64],
+    direction: usize,
+    part: &mut [u64; 2],
+) -> u32
+    ensures { λ r. ⌜ _≡_ {A = Written} (record { number = r; buffer = now (part .exit) }) (planeTold (settingsOf (now (w .entry))) (now (f .entry)) direction) ⌝ }
+{
+    let s = host::settings_of(w);
+    let number = readings::plane_refusal(s, f, direction);
+    let count = readings::plane(s, f, direction).len();
+    *part = [(direction * count) as u64, count as u64];
+    number
+}
+
+// ---- streaming, the lossless question and the reverse
+
+#[no_mangle]
+pub extern "C" fn brothwagon_stream_with_faces(w: &[u64; 19], post: &[u64], f: &mut [u64]) -> u32
+    ensures { λ r. ⌜ _≡_ {A = Written} (record { number = r; buffer = now (f .exit) }) (streamedWithFaces (settingsOf (now (w .entry))) (now (post .entry)) (now (f .entry))) ⌝ }
+{
+    streaming::stream_with_faces(host::settings_of(w), post, f)
+}
+
+#[no_mangle]
+pub extern "C" fn brothwagon_lossless(w: &[u64; 19], answer: &mut [u64; 4]) -> u32
+    ensures { λ r. ⌜ _≡_ {A = Written} (record { number = r; buffer = now (answer .exit) }) (losslessTold (losslessOf (settingsOf (now (w .entry))))) ⌝ }
+{
+    let a = lossless::lossless(host::settings_of(w));
+    match a {
+        Answer::Refused(number) => {
+            *answer = [0, 0, 0, 0];
+            number
+        }
+        Answer::Lossless => {
+            *answer = [1, 0, 0, 0];
+            0
+        }
+        Answer::Lossy(x, y, i) => {
+            *answer = [0, x as u64, y as u64, i as u64];
+            0
+        }
+    }
+}
+
+#[no_mangle]
+pub extern "C" fn brothwagon_reverse(w: &[u64; 19], f: &[u64], post: &mut [u64]) -> u32
+    ensures { λ r. ⌜ _≡_ {A = Written} (record { number = r; buffer = now (post .exit) }) (reversedOf (settingsOf (now (w .entry))) (now (f .entry)) (now (post .entry))) ⌝ }
+{
+    lossless::reverse(host::settings_of(w), f, post)
+}
+
+// ---- steps and runs
+
+#[no_mangle]
+pub extern "C" fn brothwagon_step(w: &[u64; 19], f: &mut [u64], post: &mut [u64]) -> u32
+    ensures { λ r. ⌜ _≡_ {A = Stepped} (record { number = r; f = now (f .exit); post = now (post .exit) }) (stepOf (settingsOf (now (w .entry))) (now (f .entry)) (now (post .entry))) ⌝ }
+{
+    runs::step(host::settings_of(w), f, post)
+}
+
+#[no_mangle]
+pub extern "C" fn brothwagon_run(w: &[u64; 19], steps: u64, f: &mut [u64], post: &mut [u64]) -> u32
+    ensures { λ r. ⌜ _≡_ {A = Stepped} (record { number = r; f = now (f .exit); post = now (post .exit) }) (runOf (settingsOf (now (w .entry))) steps (now (f .entry)) (now (post .entry))) ⌝ }
+{
+    runs::run(host::settings_of(w), steps, f, post)
+}
+
+#[no_mangle]
+pub extern "C" fn brothwagon_run_to_steady_state(
+    w: &[u64; 19],
+    tolerance: f64,
+    max_steps: u64,
+    check_every: u64,
+    f: &mut [u64],
+    post: &mut [u64],
+    u: &mut [u64],
+    answer: &mut [u64; 3],
+) -> u32
+    ensures { λ r. ⌜ _≡_ {A = SteadyTold} (record { number = r; answer = now (answer .exit); f = now (f .exit); post = now (post .exit); u = now (u .exit) }) (steadyTold (steadyOf (settingsOf (now (w .entry))) tolerance «max_steps» «check_every» (now (f .entry)) (now (post .entry)) (now (u .entry)))) ⌝ }
+{
+    let s = host::settings_of(w);
+    let a = runs::run_to_steady_state(s, tolerance, max_steps, check_every, f, post, u);
+    match a {
+        Steady::Refused(number) => {
+            *answer = [0, 0, 0];
+            number
+        }
+        Steady::Settled(steps, residual) => {
+            *answer = [1, steps, number::pattern(residual)];
+            0
+        }
+        Steady::RanOut(steps, residual) => {
+            *answer = [0, steps, number::pattern(residual)];
+            0
+        }
+        Steady::Ruined(steps) => {
+            *answer = [0, steps, 0];
+            9
+        }
+    }
+}
+
+// ---- the lattice
+
+#[no_mangle]
+pub extern "C" fn brothwagon_dir_index(ex: i32, ey: i32, direction: &mut [u64; 1]) -> u32
+    ensures { λ r. ⌜ _≡_ {A = Written} (record { number = r; buffer = now (direction .exit) }) (directionTold (dirIndexOf ex ey)) ⌝ }
+{
+    let found = lattice::dir_index(ex, ey);
+    *direction = [found.direction as u64];
+    found.number
+}
