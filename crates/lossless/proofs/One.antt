@@ -1,11 +1,11 @@
 -- Any two outcomes that the contract of a public operation allows on the same input coincide: the answer, the number, and the lent buffer.
 -- Assumes nothing.
-use mathlib.Core.Path.{_≡_, sym, _∙_, ap}
+use mathlib.Core.Path.{_≡_, sym, _∙_}
 use contract.Lifetimes.{Lfts}
 use denote.Ref.{now}
 use denote.Triple.Clauses.{AtExit}
 use borrow.Fn.World.{ArgsD, ResD}
-use Rattle.settings.specs.Outcome.{Written}
+use Rattle.settings.proofs.Outcome.{both}
 use Rattle.lossless.proofs.lossless
 use Rattle.lossless.proofs.lossless.Reads as answers
 use Rattle.lossless.proofs.reverse
@@ -17,6 +17,4 @@ module _ (κs : Lfts 0) (a : ArgsD lossless.signature κs) where
 
 module _ (κs : Lfts 2) (a : ArgsD reverse.signature κs) where
   pub reverse-one : (r q : ResD reverse.signature κs) (s t : AtExit reverse.ended κs) → reverses.Post κs a r s → reverses.Post κs a q t → (r ≡ q) × (now (s .1 .1 .0) ≡ now (t .1 .1 .0))
-  reverse-one r q s t p p' =
-      let e = p ∙ sym p' in
-      (ap (λ (w : Written). w .number) e, ap (λ (w : Written). w .buffer) e)
+  reverse-one r q s t p p' = both (p ∙ sym p')

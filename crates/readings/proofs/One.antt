@@ -1,12 +1,12 @@
 -- Any two outcomes that a contract, as the checker reads it (`Post`), allows on the same input coincide: what is returned and the buffer that is written.
 -- Assumes nothing.
-use mathlib.Core.Path.{_≡_, sym, ap, _∙_}
+use mathlib.Core.Path.{_≡_, sym, _∙_}
 use Prim.Native.Nat.{ℕ}
 use contract.Lifetimes.{Lfts}
 use denote.Ref.{now}
 use denote.Triple.Clauses.{AtExit}
 use borrow.Fn.World.{ArgsD, ResD}
-use Rattle.settings.specs.Outcome.{Written}
+use Rattle.settings.proofs.Outcome.{both}
 use Rattle.readings.proofs.initialize
 use Rattle.readings.proofs.initialize.Reads as initialize-reads
 use Rattle.readings.proofs.density
@@ -47,9 +47,6 @@ pub plane-refusal-one : (κs : Lfts 1) (a : ArgsD plane_refusal.signature κs) (
 plane-refusal-one κs a r q s t p p' = p ∙ sym p'
 
 -- ---- a buffer is written
-
-both : {v w : Written} → v ≡ w → (v .number ≡ w .number) × (v .buffer ≡ w .buffer)
-both e = (ap (λ (w : Written). w .number) e, ap (λ (w : Written). w .buffer) e)
 
 pub initialize-one : (κs : Lfts 2) (a : ArgsD initialize.signature κs) (r q : ℕ) (s t : AtExit initialize.ended κs)
     → initialize-reads.Post κs a r s → initialize-reads.Post κs a q t → (r ≡ q) × (now (s .1 .1 .0) ≡ now (t .1 .1 .0))

@@ -15,7 +15,7 @@ use Rattle.runs.proofs.run.Reads as run-reads
 use Rattle.runs.proofs.run_to_steady_state
 use Rattle.runs.proofs.run_to_steady_state.Reads as steady-reads
 
-all-stepped : {v w : Stepped} → v ≡ w → (v .number ≡ w .number) × (v .f ≡ w .f) × (v .post ≡ w .post)
+pub all-stepped : {v w : Stepped} → v ≡ w → (v .number ≡ w .number) × (v .f ≡ w .f) × (v .post ≡ w .post)
 all-stepped e = (ap (λ (w : Stepped). w .number) e, ap (λ (w : Stepped). w .f) e, ap (λ (w : Stepped). w .post) e)
 
 pub step-one : (κs : Lfts 2) (a : ArgsD step.signature κs) (r q : ℕ) (s t : AtExit step.ended κs)

@@ -1,0 +1,108 @@
+-- Any two outcomes that the contract of an exported function allows on the same input coincide: the number, and all that a host lent.
+-- Assumes nothing.
+use mathlib.Core.Path.{_≡_, sym, ap, _∙_}
+use Prim.Native.Nat.{ℕ}
+use contract.Lifetimes.{Lfts}
+use denote.Ref.{now}
+use denote.Triple.Clauses.{AtExit}
+use borrow.Fn.World.{ArgsD}
+use Rattle.settings.proofs.Outcome.{both}
+use Rattle.runs.proofs.One.{all-stepped}
+use Rattle.brothwagon.specs.Exported.{SteadyTold}
+use Rattle.brothwagon.proofs.brothwagon_initialize
+use Rattle.brothwagon.proofs.brothwagon_initialize.Reads as initialize-reads
+use Rattle.brothwagon.proofs.brothwagon_density
+use Rattle.brothwagon.proofs.brothwagon_density.Reads as density-reads
+use Rattle.brothwagon.proofs.brothwagon_velocity
+use Rattle.brothwagon.proofs.brothwagon_velocity.Reads as velocity-reads
+use Rattle.brothwagon.proofs.brothwagon_velocity_field
+use Rattle.brothwagon.proofs.brothwagon_velocity_field.Reads as velocity-field-reads
+use Rattle.brothwagon.proofs.brothwagon_total_mass
+use Rattle.brothwagon.proofs.brothwagon_total_mass.Reads as total-mass-reads
+use Rattle.brothwagon.proofs.brothwagon_kinetic_energy
+use Rattle.brothwagon.proofs.brothwagon_kinetic_energy.Reads as kinetic-energy-reads
+use Rattle.brothwagon.proofs.brothwagon_plane
+use Rattle.brothwagon.proofs.brothwagon_plane.Reads as plane-reads
+use Rattle.brothwagon.proofs.brothwagon_stream_with_faces
+use Rattle.brothwagon.proofs.brothwagon_stream_with_faces.Reads as stream-with-faces-reads
+use Rattle.brothwagon.proofs.brothwagon_lossless
+use Rattle.brothwagon.proofs.brothwagon_lossless.Reads as lossless-reads
+use Rattle.brothwagon.proofs.brothwagon_reverse
+use Rattle.brothwagon.proofs.brothwagon_reverse.Reads as reverse-reads
+use Rattle.brothwagon.proofs.brothwagon_step
+use Rattle.brothwagon.proofs.brothwagon_step.Reads as step-reads
+use Rattle.brothwagon.proofs.brothwagon_run
+use Rattle.brothwagon.proofs.brothwagon_run.Reads as run-reads
+use Rattle.brothwagon.proofs.brothwagon_run_to_steady_state
+use Rattle.brothwagon.proofs.brothwagon_run_to_steady_state.Reads as run-to-steady-state-reads
+use Rattle.brothwagon.proofs.brothwagon_dir_index
+use Rattle.brothwagon.proofs.brothwagon_dir_index.Reads as dir-index-reads
+
+-- ---- the number, and a buffer
+
+pub initialize-one : (κs : Lfts 3) (a : ArgsD brothwagon_initialize.signature κs) (r q : ℕ) (s t : AtExit brothwagon_initialize.ended κs)
+    → initialize-reads.Post κs a r s → initialize-reads.Post κs a q t → (r ≡ q) × (now (s .1 .1 .0) ≡ now (t .1 .1 .0))
+initialize-one κs a r q s t p p' = both (p ∙ sym p')
+
+pub density-one : (κs : Lfts 3) (a : ArgsD brothwagon_density.signature κs) (r q : ℕ) (s t : AtExit brothwagon_density.ended κs)
+    → density-reads.Post κs a r s → density-reads.Post κs a q t → (r ≡ q) × (now (s .1 .1 .1 .1 .0) ≡ now (t .1 .1 .1 .1 .0))
+density-one κs a r q s t p p' = both (p ∙ sym p')
+
+pub velocity-one : (κs : Lfts 3) (a : ArgsD brothwagon_velocity.signature κs) (r q : ℕ) (s t : AtExit brothwagon_velocity.ended κs)
+    → velocity-reads.Post κs a r s → velocity-reads.Post κs a q t → (r ≡ q) × (now (s .1 .1 .1 .1 .0) ≡ now (t .1 .1 .1 .1 .0))
+velocity-one κs a r q s t p p' = both (p ∙ sym p')
+
+pub velocity-field-one : (κs : Lfts 3) (a : ArgsD brothwagon_velocity_field.signature κs) (r q : ℕ) (s t : AtExit brothwagon_velocity_field.ended κs)
+    → velocity-field-reads.Post κs a r s → velocity-field-reads.Post κs a q t → (r ≡ q) × (now (s .1 .1 .0) ≡ now (t .1 .1 .0))
+velocity-field-one κs a r q s t p p' = both (p ∙ sym p')
+
+pub total-mass-one : (κs : Lfts 3) (a : ArgsD brothwagon_total_mass.signature κs) (r q : ℕ) (s t : AtExit brothwagon_total_mass.ended κs)
+    → total-mass-reads.Post κs a r s → total-mass-reads.Post κs a q t → (r ≡ q) × (now (s .1 .1 .0) ≡ now (t .1 .1 .0))
+total-mass-one κs a r q s t p p' = both (p ∙ sym p')
+
+pub kinetic-energy-one : (κs : Lfts 3) (a : ArgsD brothwagon_kinetic_energy.signature κs) (r q : ℕ) (s t : AtExit brothwagon_kinetic_energy.ended κs)
+    → kinetic-energy-reads.Post κs a r s → kinetic-energy-reads.Post κs a q t → (r ≡ q) × (now (s .1 .1 .0) ≡ now (t .1 .1 .0))
+kinetic-energy-one κs a r q s t p p' = both (p ∙ sym p')
+
+pub plane-one : (κs : Lfts 3) (a : ArgsD brothwagon_plane.signature κs) (r q : ℕ) (s t : AtExit brothwagon_plane.ended κs)
+    → plane-reads.Post κs a r s → plane-reads.Post κs a q t → (r ≡ q) × (now (s .1 .1 .1 .0) ≡ now (t .1 .1 .1 .0))
+plane-one κs a r q s t p p' = both (p ∙ sym p')
+
+pub stream-with-faces-one : (κs : Lfts 3) (a : ArgsD brothwagon_stream_with_faces.signature κs) (r q : ℕ) (s t : AtExit brothwagon_stream_with_faces.ended κs)
+    → stream-with-faces-reads.Post κs a r s → stream-with-faces-reads.Post κs a q t → (r ≡ q) × (now (s .1 .1 .0) ≡ now (t .1 .1 .0))
+stream-with-faces-one κs a r q s t p p' = both (p ∙ sym p')
+
+pub lossless-one : (κs : Lfts 2) (a : ArgsD brothwagon_lossless.signature κs) (r q : ℕ) (s t : AtExit brothwagon_lossless.ended κs)
+    → lossless-reads.Post κs a r s → lossless-reads.Post κs a q t → (r ≡ q) × (now (s .1 .0) ≡ now (t .1 .0))
+lossless-one κs a r q s t p p' = both (p ∙ sym p')
+
+pub reverse-one : (κs : Lfts 3) (a : ArgsD brothwagon_reverse.signature κs) (r q : ℕ) (s t : AtExit brothwagon_reverse.ended κs)
+    → reverse-reads.Post κs a r s → reverse-reads.Post κs a q t → (r ≡ q) × (now (s .1 .1 .0) ≡ now (t .1 .1 .0))
+reverse-one κs a r q s t p p' = both (p ∙ sym p')
+
+pub dir-index-one : (κs : Lfts 1) (a : ArgsD brothwagon_dir_index.signature κs) (r q : ℕ) (s t : AtExit brothwagon_dir_index.ended κs)
+    → dir-index-reads.Post κs a r s → dir-index-reads.Post κs a q t → (r ≡ q) × (now (s .1 .1 .0) ≡ now (t .1 .1 .0))
+dir-index-one κs a r q s t p p' = both (p ∙ sym p')
+
+-- ---- the number, and two buffers
+
+pub step-one : (κs : Lfts 3) (a : ArgsD brothwagon_step.signature κs) (r q : ℕ) (s t : AtExit brothwagon_step.ended κs)
+    → step-reads.Post κs a r s → step-reads.Post κs a q t → (r ≡ q) × (now (s .1 .0) ≡ now (t .1 .0)) × (now (s .1 .1 .0) ≡ now (t .1 .1 .0))
+step-one κs a r q s t p p' = all-stepped (p ∙ sym p')
+
+pub run-one : (κs : Lfts 3) (a : ArgsD brothwagon_run.signature κs) (r q : ℕ) (s t : AtExit brothwagon_run.ended κs)
+    → run-reads.Post κs a r s → run-reads.Post κs a q t → (r ≡ q) × (now (s .1 .1 .0) ≡ now (t .1 .1 .0)) × (now (s .1 .1 .1 .0) ≡ now (t .1 .1 .1 .0))
+run-one κs a r q s t p p' = all-stepped (p ∙ sym p')
+
+-- ---- the number, the answer, and three buffers
+
+pub run-to-steady-state-one : (κs : Lfts 5) (a : ArgsD brothwagon_run_to_steady_state.signature κs) (r q : ℕ) (s t : AtExit brothwagon_run_to_steady_state.ended κs)
+    → run-to-steady-state-reads.Post κs a r s → run-to-steady-state-reads.Post κs a q t → (r ≡ q) × (now (s .1 .1 .1 .1 .1 .1 .1 .0) ≡ now (t .1 .1 .1 .1 .1 .1 .1 .0)) × (now (s .1 .1 .1 .1 .0) ≡ now (t .1 .1 .1 .1 .0)) × (now (s .1 .1 .1 .1 .1 .0) ≡ now (t .1 .1 .1 .1 .1 .0)) × (now (s .1 .1 .1 .1 .1 .1 .0) ≡ now (t .1 .1 .1 .1 .1 .1 .0))
+run-to-steady-state-one κs a r q s t p p' =
+    let e = p ∙ sym p' in (
+      ap (λ (w : SteadyTold). w .number) e,
+      ap (λ (w : SteadyTold). w .answer) e,
+      ap (λ (w : SteadyTold). w .f) e,
+      ap (λ (w : SteadyTold). w .post) e,
+      ap (λ (w : SteadyTold). w .u) e,
+    )
