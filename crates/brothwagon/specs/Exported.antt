@@ -10,8 +10,7 @@ use Rattle.settings.specs.declared.Settings.{Settings}
 use Rattle.settings.specs.Refusals as Call
 use Rattle.settings.specs.Refusals.{refusal}
 use Rattle.settings.specs.Outcome.{Written}
-use Rattle.lossless.specs.declared.Answer.{Answer}
-use Rattle.lossless.specs.Lossless as Lossless
+use Rattle.lossless.specs.Lossless.{Reply}
 use Rattle.readings.specs.declared.Reading.{Reading}
 use Rattle.readings.specs.declared.VelocityReading.{VelocityReading}
 use Rattle.readings.specs.Readings.{planeStart, planeLength}
@@ -32,8 +31,8 @@ planeTold s f i = record {
   buffer = planeStart s f i ∷ planeLength s f i ∷ [];
 }
 
-abbrev pub losslessTold : Answer → Written
-losslessTold a = record { number = Lossless.numberOf a; buffer = Lossless.valuesOf a }
+abbrev pub losslessTold : Reply → Written
+losslessTold r = record { number = r .number; buffer = r .values }
 
 abbrev pub directionTold : Found → Written
 directionTold r = record { number = r .number; buffer = r .direction ∷ [] }

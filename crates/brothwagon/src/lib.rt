@@ -6,7 +6,7 @@ ghost use mathlib.Core.Path.{_≡_};
 ghost use Rattle.lattice.specs.Lookup.{dirIndexOf};
 ghost use Rattle.settings.specs.Outcome.{Written};
 ghost use Rattle.streaming.specs.Streaming.{streamedWithFaces};
-ghost use Rattle.lossless.specs.Lossless.{losslessOf, reversedOf};
+ghost use Rattle.lossless.specs.Lossless.{reply, losslessOf, reversedOf};
 ghost use Rattle.readings.specs.Readings.{initialized, densityRead, velocityRead, velocityFieldRead, totalMassRead, kineticEnergyRead};
 ghost use Rattle.runs.specs.Steps.{Stepped, stepOf, runOf};
 ghost use Rattle.runs.specs.Steady.{steadyOf};
@@ -105,7 +105,7 @@ pub extern "C" fn brothwagon_stream_with_faces(w: &[u64; 19], post: &[u64], f: &
 
 #[no_mangle]
 pub extern "C" fn brothwagon_lossless(w: &[u64; 19], answer: &mut [u64; 4]) -> u32
-    ensures { λ r. ⌜ _≡_ {A = Written} (record { number = r; buffer = now (answer .exit) }) (losslessTold (losslessOf (settingsOf (now (w .entry))))) ⌝ }
+    ensures { λ r. ⌜ _≡_ {A = Written} (record { number = r; buffer = now (answer .exit) }) (losslessTold (reply (losslessOf (settingsOf (now (w .entry)))))) ⌝ }
 {
     let a = lossless::lossless(host::settings_of(w));
     match a {

@@ -76,6 +76,15 @@ valuesOf (The.Refused number) = 0 ∷ 0 ∷ 0 ∷ 0 ∷ []
 valuesOf The.Lossless = 1 ∷ 0 ∷ 0 ∷ 0 ∷ []
 valuesOf (The.Lossy x y i) = 0 ∷ x ∷ y ∷ i ∷ []
 
+-- an answer with its number and values
+pub record Reply : Type 0 where
+  pub answer : Answer
+  pub number : ℕ
+  pub values : List ℕ
+
+abbrev pub reply : Answer → Reply
+reply a = record { answer = a; number = numberOf a; values = valuesOf a }
+
 -- the answer to the lossless question
 abbrev pub lossyAt : Entry → Answer
 lossyAt e = The.Lossy (e .x) (e .y) (e .i)

@@ -4,7 +4,7 @@ use settings::Settings;
 ghost use mathlib.Core.Path.{_≡_};
 ghost use Prim.Native.Nat.{_<_};
 ghost use Rattle.lossless.specs.Lossless as Lossless;
-ghost use Rattle.lossless.specs.Lossless.{lossyAt, losslessOf, reversedOf};
+ghost use Rattle.lossless.specs.Lossless.{reply, lossyAt, losslessOf, reversedOf};
 ghost use Rattle.settings.specs.Outcome.{Written};
 
 // What the lossless question answers. A lossy answer names the lowest entry that is lost, by x, y and direction.
@@ -50,7 +50,7 @@ fn lowest(s: Settings) -> Answer
 
 // Whether no two different post-collision buffers give the same next buffer; and where they do, the lowest entry that is lost.
 pub fn lossless(s: Settings) -> Answer
-    ensures { λ r. ⌜ r ≡ losslessOf s ⌝ }
+    ensures { λ r. ⌜ reply r ≡ reply (losslessOf s) ⌝ }
 {
     let number = settings::lossless_refusal(s);
     if number != 0 {

@@ -1,8 +1,9 @@
 -- `line::put_answer_to` meets its contract: a readable line is asked, and any other is unreadable.
 -- Assumes nothing.
-use mathlib.Core.Path.{_≡_, sym, _∙_}
+use mathlib.Core.Path.{_≡_, sym, ap, _∙_}
 use denote.Ref.{now}
 use borrow.Author.Needs.{needs}
+use Rattle.lossless.specs.Lossless.{Reply}
 use Rattle.line.specs.Line.{worded, unreadable, answerTo}
 use Rattle.line.proofs.Forms.{not-readable}
 use Rattle.line.proofs.put_answer_to.Statement.{statement}
@@ -16,7 +17,7 @@ answers : (c : tie.After-lossless) → answerTo (now (c .before .before .before 
 unfolding answerTo
 answers c =
     let read = c .before .before in
-    rw (sym (read .before .readable .ensures) ∙ read .if1 .taken, ← c .before .asked .ensures, ← c .lossless .ensures)
+    rw (sym (read .before .readable .ensures) ∙ read .if1 .taken, ← c .before .asked .ensures, ← ap (λ (w : Reply). w .answer) (c .lossless .ensures))
 
 others : (c : tie.Else1) → answerTo (now (c .before .before .before .before .args .line)) ≡ unreadable
 others c = not-readable _ (sym (c .before .readable .ensures) ∙ c .if1 .left)
