@@ -8,3 +8,4 @@ pub mod Carried
 pub mod One
 pub mod Dirs
 pub mod Source
+pub mod Divisor
