@@ -37,8 +37,8 @@ pub record Seen (s : Settings) (f u : List ℕ) : Type 0 where
   pub u-size : length u ≡ 2 * (s .nx * s .ny)
 
 -- entry i of cell c after one of the three collisions
-abbrev pub collidedBy : (List Float → List Float → List Float → List Float) → Float → Float → List ℕ → ℕ → ℕ → ℕ → ℕ
-collidedBy collide fx fy f n c i = patternOf (at (cellBy collide (cellOf f n c) fx fy) i)
+abbrev pub entryBy : (List Float → List Float → List Float → List Float) → Float → Float → List ℕ → ℕ → ℕ → ℕ → ℕ
+entryBy collide fx fy f n c i = patternOf (at (cellBy collide (cellOf f n c) fx fy) i)
 
 -- the two maxima once a component is taken in, which was `last` in the last snapshot
 abbrev pub takenIn : Maxima → Float → Float → Maxima

@@ -14,16 +14,17 @@ ghost use Rattle.grid.specs.Grid.{Grid, Holds};
 ghost use Rattle.grid.specs.Writes.{Cells};
 ghost use Rattle.cell.specs.Cell.{forcedBy, bgkRates, trtRates, mrtRates, bgk, trt, mrt};
 ghost use Rattle.readings.specs.Readings.{velocityBuffer};
-ghost use Rattle.runs.specs.Passes.{Paired, Ready, AllReady, Seen, collidedBy, takenIn, CellTaken, cellTaken};
+ghost use Rattle.runs.specs.Passes.{Paired, Ready, AllReady, Seen, entryBy, takenIn, CellTaken, cellTaken};
 ghost use Rattle.runs.specs.Steps as Steps;
 ghost use Rattle.runs.specs.Steps.{collidedBuffer, State, oneStep, Stepped, stepOf, runOf};
-ghost use Rattle.runs.specs.Steady.{badCell, badSnapshot, ratio, residualOf, checked, Checked, checkOf, ended, onward, settling, steadyOf};
+ghost use Rattle.runs.specs.Steady as Rules;
+ghost use Rattle.runs.specs.Steady.{badCell, badSnapshot, residualOf, checked, Checked, checkOf, ended, onward, settling, steadyOf};
 
 // ---- collision: one pass over the n cells. Kind and force are chosen once a pass, so each has a loop of its own
 
 fn bgk_pass(n: usize, fx: f64, fy: f64, rates: BgkRates, f: &[u64], post: &mut [u64])
     requires { ⌜ Paired n (now f) (now post) × (forcedBy fx fy ≡ false) ⌝ }
-    ensures { λ _. ⌜ Cells (now (post .entry)) (now (post .exit)) n n (collidedBy (bgk rates) fx fy (now (f .entry)) n) ⌝ }
+    ensures { λ _. ⌜ Cells (now (post .entry)) (now (post .exit)) n n (entryBy (bgk rates) fx fy (now (f .entry)) n) ⌝ }
 {
     let mut c = 0;
     while c < n {
@@ -35,7 +36,7 @@ fn bgk_pass(n: usize, fx: f64, fy: f64, rates: BgkRates, f: &[u64], post: &mut [
 
 fn bgk_pass_forced(n: usize, fx: f64, fy: f64, rates: BgkRates, f: &[u64], post: &mut [u64])
     requires { ⌜ Paired n (now f) (now post) × (forcedBy fx fy ≡ true) ⌝ }
-    ensures { λ _. ⌜ Cells (now (post .entry)) (now (post .exit)) n n (collidedBy (bgk rates) fx fy (now (f .entry)) n) ⌝ }
+    ensures { λ _. ⌜ Cells (now (post .entry)) (now (post .exit)) n n (entryBy (bgk rates) fx fy (now (f .entry)) n) ⌝ }
 {
     let mut c = 0;
     while c < n {
@@ -47,7 +48,7 @@ fn bgk_pass_forced(n: usize, fx: f64, fy: f64, rates: BgkRates, f: &[u64], post:
 
 fn trt_pass(n: usize, fx: f64, fy: f64, rates: TrtRates, f: &[u64], post: &mut [u64])
     requires { ⌜ Paired n (now f) (now post) × (forcedBy fx fy ≡ false) ⌝ }
-    ensures { λ _. ⌜ Cells (now (post .entry)) (now (post .exit)) n n (collidedBy (trt rates) fx fy (now (f .entry)) n) ⌝ }
+    ensures { λ _. ⌜ Cells (now (post .entry)) (now (post .exit)) n n (entryBy (trt rates) fx fy (now (f .entry)) n) ⌝ }
 {
     let mut c = 0;
     while c < n {
@@ -59,7 +60,7 @@ fn trt_pass(n: usize, fx: f64, fy: f64, rates: TrtRates, f: &[u64], post: &mut [
 
 fn trt_pass_forced(n: usize, fx: f64, fy: f64, rates: TrtRates, f: &[u64], post: &mut [u64])
     requires { ⌜ Paired n (now f) (now post) × (forcedBy fx fy ≡ true) ⌝ }
-    ensures { λ _. ⌜ Cells (now (post .entry)) (now (post .exit)) n n (collidedBy (trt rates) fx fy (now (f .entry)) n) ⌝ }
+    ensures { λ _. ⌜ Cells (now (post .entry)) (now (post .exit)) n n (entryBy (trt rates) fx fy (now (f .entry)) n) ⌝ }
 {
     let mut c = 0;
     while c < n {
@@ -71,7 +72,7 @@ fn trt_pass_forced(n: usize, fx: f64, fy: f64, rates: TrtRates, f: &[u64], post:
 
 fn mrt_pass(n: usize, fx: f64, fy: f64, rates: MrtRates, f: &[u64], post: &mut [u64])
     requires { ⌜ Paired n (now f) (now post) ⌝ }
-    ensures { λ _. ⌜ Cells (now (post .entry)) (now (post .exit)) n n (collidedBy (mrt rates) fx fy (now (f .entry)) n) ⌝ }
+    ensures { λ _. ⌜ Cells (now (post .entry)) (now (post .exit)) n n (entryBy (mrt rates) fx fy (now (f .entry)) n) ⌝ }
 {
     let mut c = 0;
     while c < n {
@@ -83,7 +84,7 @@ fn mrt_pass(n: usize, fx: f64, fy: f64, rates: MrtRates, f: &[u64], post: &mut [
 
 fn collide_bgk(n: usize, fx: f64, fy: f64, tau: f64, f: &[u64], post: &mut [u64])
     requires { ⌜ Paired n (now f) (now post) ⌝ }
-    ensures { λ _. ⌜ Cells (now (post .entry)) (now (post .exit)) n n (collidedBy (bgk (bgkRates tau)) fx fy (now (f .entry)) n) ⌝ }
+    ensures { λ _. ⌜ Cells (now (post .entry)) (now (post .exit)) n n (entryBy (bgk (bgkRates tau)) fx fy (now (f .entry)) n) ⌝ }
 {
     let rates = cell::bgk_rates(tau);
     if cell::forced(fx, fy) {
@@ -95,7 +96,7 @@ fn collide_bgk(n: usize, fx: f64, fy: f64, tau: f64, f: &[u64], post: &mut [u64]
 
 fn collide_trt(n: usize, fx: f64, fy: f64, tau: f64, rate: f64, f: &[u64], post: &mut [u64])
     requires { ⌜ Paired n (now f) (now post) ⌝ }
-    ensures { λ _. ⌜ Cells (now (post .entry)) (now (post .exit)) n n (collidedBy (trt (trtRates tau rate)) fx fy (now (f .entry)) n) ⌝ }
+    ensures { λ _. ⌜ Cells (now (post .entry)) (now (post .exit)) n n (entryBy (trt (trtRates tau rate)) fx fy (now (f .entry)) n) ⌝ }
 {
     let rates = cell::trt_rates(tau, rate);
     if cell::forced(fx, fy) {
@@ -107,7 +108,7 @@ fn collide_trt(n: usize, fx: f64, fy: f64, tau: f64, rate: f64, f: &[u64], post:
 
 fn collide_mrt(n: usize, fx: f64, fy: f64, tau: f64, f: &[u64], post: &mut [u64])
     requires { ⌜ Paired n (now f) (now post) ⌝ }
-    ensures { λ _. ⌜ Cells (now (post .entry)) (now (post .exit)) n n (collidedBy (mrt (mrtRates tau)) fx fy (now (f .entry)) n) ⌝ }
+    ensures { λ _. ⌜ Cells (now (post .entry)) (now (post .exit)) n n (entryBy (mrt (mrtRates tau)) fx fy (now (f .entry)) n) ⌝ }
 {
     mrt_pass(n, fx, fy, cell::mrt_rates(tau), f, post);
 }
@@ -244,8 +245,8 @@ fn take_cell(max: Maxima, m: Moments, c: usize, u: &mut [u64]) -> Maxima
     max
 }
 
-fn residual_of(max: Maxima) -> f64
-    ensures { λ r. ⌜ r ≡ ratio (max .du) (max .umax) ⌝ }
+fn ratio(max: Maxima) -> f64
+    ensures { λ r. ⌜ r ≡ Rules.ratio (max .du) (max .umax) ⌝ }
 {
     if 0.0 < max.umax {
         max.du / max.umax
@@ -268,7 +269,7 @@ fn take_snapshot(s: Settings, f: &[u64], u: &mut [u64]) -> f64
         max = take_cell(max, m, c, u);
         c += 1;
     }
-    residual_of(max)
+    ratio(max)
 }
 
 // ---- checks

@@ -16,7 +16,7 @@ use Rattle.settings.proofs.Laws.{or-left, or-right}
 use Rattle.streaming.specs.Steps.{Step, stay, up, down, part, against, moved, streamed, turned}
 use Rattle.streaming.specs.Faces.{Side, min, max, incoming, fed, takes, face}
 use Rattle.streaming.specs.Streaming.{next}
-use Rattle.streaming.specs.Source.{Entry, entry, On, held, opposite, faceOf, enters, leaves, back, came, goes, source, target}
+use Rattle.streaming.specs.Source.{Entry, entry, On, held, opposite, faceOf, enters, leaves, turnedBack, came, goes, source, target}
 use Rattle.streaming.proofs.Dirs.{against-twice, opposite-part, mirror-between}
 use Rattle.streaming.proofs.Ring.{turn-lt}
 
@@ -34,7 +34,7 @@ plain s h Y max = or-right (drives (s .«x_min») || drives (s .«x_max») || dr
 module _ (a : Axis) (post : Field) (e : Entry) where
   -- what a face that is not driven lets a direction take
   taken : (d : Side) (k : Face) → drives k ≡ false → (prev : Field) (o : Entry) → held prev e ≡ held post o
-      → held (takes a d k post prev) e ≡ held post (back a k e o)
+      → held (takes a d k post prev) e ≡ held post (turnedBack a k e o)
   unfolding takes
   taken d Periodic h prev o is = is
   taken d NoSlip h prev o is = refl
@@ -48,14 +48,14 @@ module _ (a : Axis) (post : Field) (e : Entry) where
   met false p o q r = r
 
   one : (d : Side) (k : Face) (nx ny : ℕ) → drives k ≡ false → (prev : Field) (o : Entry) → held prev e ≡ held post o
-      → held (face a d k nx ny post prev) e ≡ held post (cond (fed a d nx ny (e .x) (e .y) (e .i)) (back a k e o) o)
+      → held (face a d k nx ny post prev) e ≡ held post (cond (fed a d nx ny (e .x) (e .y) (e .i)) (turnedBack a k e o) o)
   unfolding face
-  one d k nx ny h prev o is = met (fed a d nx ny (e .x) (e .y) (e .i)) (back a k e o) o (taken d k h prev o is) is
+  one d k nx ny h prev o is = met (fed a d nx ny (e .x) (e .y) (e .i)) (turnedBack a k e o) o (taken d k h prev o is) is
 
 -- a direction comes in through one face across an axis at most
 both : (a : Axis) (f : Side → Face) (c : Step) (l h : Bool) (e o : Entry)
-    → cond (incoming max c && h) (back a (f max) e (cond (incoming min c && l) (back a (f min) e o) o)) (cond (incoming min c && l) (back a (f min) e o) o)
-    ≡ back a (cond (incoming min c && l) (f min) (cond (incoming max c && h) (f max) Periodic)) e o
+    → cond (incoming max c && h) (turnedBack a (f max) e (cond (incoming min c && l) (turnedBack a (f min) e o) o)) (cond (incoming min c && l) (turnedBack a (f min) e o) o)
+    ≡ turnedBack a (cond (incoming min c && l) (f min) (cond (incoming max c && h) (f max) Periodic)) e o
 both a f stay l h e o = refl
 both a f up true h e o = refl
 both a f up false h e o = refl
@@ -64,7 +64,7 @@ both a f down l false e o = refl
 
 module _ (s : Settings) (calm : driven s ≡ false) (post : Field) where
   across : (a : Axis) (prev : Field) (e o : Entry) → held prev e ≡ held post o
-      → held (face a max (faceOf s a max) (s .nx) (s .ny) post (face a min (faceOf s a min) (s .nx) (s .ny) post prev)) e ≡ held post (back a (enters s a e) e o)
+      → held (face a max (faceOf s a max) (s .nx) (s .ny) post (face a min (faceOf s a min) (s .nx) (s .ny) post prev)) e ≡ held post (turnedBack a (enters s a e) e o)
   unfolding enters
   across a prev e o is =
       one a post e max (faceOf s a max) (s .nx) (s .ny) (plain s calm a max) _ _
@@ -90,7 +90,7 @@ module _ (nx ny : ℕ) (e : Entry) (on : On nx ny e) where
   either true o p h l = h
   either false o p h l = l
 
-  back-on : (a : Axis) (k : Face) (o : Entry) → On nx ny o → On nx ny (back a k e o)
+  back-on : (a : Axis) (k : Face) (o : Entry) → On nx ny o → On nx ny (turnedBack a k e o)
   back-on a k o h = either (isPeriodic k) o _ h (chosen (isSymmetry k) a)
 
 -- a step around a side stays on it
@@ -125,7 +125,7 @@ module _ (nx ny : ℕ) (e : Entry) (on : On nx ny e) where
   swapped true o p q r h l = h
   swapped false o p q r h l = l
 
-  back-opposite : (a : Axis) (k : Face) (o p : Entry) → o ≡ opposite p → back a k e o ≡ opposite (back a k (opposite e) p)
+  back-opposite : (a : Axis) (k : Face) (o p : Entry) → o ≡ opposite p → turnedBack a k e o ≡ opposite (turnedBack a k (opposite e) p)
   back-opposite a k o p h = swapped (isPeriodic k) o _ p _ h (ap (entry (e .x) (e .y)) (reflected (isSymmetry k) a))
 
 module _ (s : Settings) (e : Entry) (on : On (s .nx) (s .ny) e) where

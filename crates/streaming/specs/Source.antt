@@ -62,8 +62,8 @@ abbrev pub reflect : Axis → Face → ℕ → ℕ
 reflect a k i = cond (isSymmetry k) (mirror a i) (OPP i)
 
 -- e turned back by a face that is not periodic, and else o
-abbrev pub back : Axis → Face → Entry → Entry → Entry
-back a k e o = cond (isPeriodic k) o (entry (e .x) (e .y) (reflect a k (e .i)))
+abbrev pub turnedBack : Axis → Face → Entry → Entry → Entry
+turnedBack a k e o = cond (isPeriodic k) o (entry (e .x) (e .y) (reflect a k (e .i)))
 
 -- ---- from where, and to where
 
@@ -76,8 +76,8 @@ goes s e = entry (moved (part X (e .i)) (s .nx) (e .x)) (moved (part Y (e .i)) (
 
 -- THE SOURCE of a final entry: y settles corners
 unfoldable pub source : Settings → Entry → Entry
-source s e = back Y (enters s Y e) e (back X (enters s X e) e (came s e))
+source s e = turnedBack Y (enters s Y e) e (turnedBack X (enters s X e) e (came s e))
 
 -- THE TARGET of a post-collision entry
 unfoldable pub target : Settings → Entry → Entry
-target s e = back Y (leaves s Y e) e (back X (leaves s X e) e (goes s e))
+target s e = turnedBack Y (leaves s Y e) e (turnedBack X (leaves s X e) e (goes s e))

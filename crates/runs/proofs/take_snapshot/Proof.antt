@@ -33,7 +33,7 @@ returns : tie.Need-returns Inv-loop μ-loop
 returns c =
     let l = c .before .before in
     let t = rw (le-antisymm (l .loop .inv .0) (c .before .loop-test .left)) at (l .loop .inv .1) in
-    (taken-all _ _ _ t (l .before .before .before .before .pre .u-size), residual-is _ _ _ t (c .residual-of .ensures))
+    (taken-all _ _ _ t (l .before .before .before .before .pre .u-size), residual-is _ _ _ t (c .ratio .ensures))
 
 pub take-snapshot-spec : {M : Type 1} → statement M
 take-snapshot-spec =

@@ -7,13 +7,13 @@ use borrow.Author.Needs.{needs}
 use Rattle.grid.specs.Writes.{Cells}
 use Rattle.grid.proofs.Writes.{cells-none}
 use Rattle.cell.specs.Cell.{trt}
-use Rattle.runs.specs.Passes.{collidedBy}
+use Rattle.runs.specs.Passes.{entryBy}
 use Rattle.runs.proofs.Cellwise.{pass-more}
 use Rattle.runs.proofs.trt_pass_forced.Statement.{statement}
 use Rattle.runs.proofs.trt_pass_forced.Tie as tie
 
 abbrev Inv-loop : tie.InvT-loop
-Inv-loop n fx fy rates f post₀ c₀ post c = (c ≤ n) × Cells post₀ post n c (collidedBy (trt rates) fx fy f n)
+Inv-loop n fx fy rates f post₀ c₀ post c = (c ≤ n) × Cells post₀ post n c (entryBy (trt rates) fx fy f n)
 
 abbrev μ-loop : tie.MeasureT-loop
 μ-loop n fx fy rates f post₀ c₀ post c = n - c
