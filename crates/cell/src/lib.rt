@@ -484,6 +484,7 @@ pub enum Collision {
     Trt(f64),
 }
 
+// For one cell by itself; a pass over a grid has its own loop for each kind.
 pub fn collide(k: Collision, f: [f64; 9], tau: f64, fx: f64, fy: f64) -> [f64; 9]
     ensures { λ r. ⌜ r ≡ collided k f tau fx fy ⌝ }
 {

@@ -20,7 +20,8 @@ ghost use Rattle.runs.specs.Steps.{collidedBuffer, State, oneStep, Stepp
 ghost use Rattle.runs.specs.Steady as Rules;
 ghost use Rattle.runs.specs.Steady.{badCell, badSnapshot, residualOf, checked, Checked, checkOf, ended, onward, settling, steadyOf};
 
-// ---- collision: one pass over the n cells. Kind and force are chosen once a pass, so each has a loop of its own
+// ---- collision: one pass over the n cells. Kind and force are chosen once a pass, so each has a loop of its own; MRT, too large to
+// stand there twice, asks for the force cell by cell
 
 fn bgk_pass(n: usize, fx: f64, fy: f64, rates: BgkRates, f: &[u64], post: &mut [u64])
     requires { ⌜ Paired n (now f) (now post) × (forcedBy fx fy ≡ false) ⌝ }
