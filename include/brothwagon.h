@@ -21,8 +21,13 @@
  *
  * Buffers. Entry (x, y, i) of the populations f and of the post-collision buffer stands at x + y nx + i nx ny: each has
  * 9 nx ny entries. A velocity buffer has 2 nx ny, a cell's two components at 2 (x + y nx). An initial table has 3 nx ny, a
- * cell's density, ux and uy at 3 (x + y nx). The length beside a pointer counts entries. Lent buffers do not overlap. Entries
- * may hold any bits; a copied entry keeps all of them, and a NaN that arithmetic makes is stored as 0x7ff8000000000000.
+ * cell's density, ux and uy at 3 (x + y nx). The length beside a pointer counts entries. Entries may hold any bits; a copied
+ * entry keeps all of them, and a NaN that arithmetic makes is stored as 0x7ff8000000000000.
+ *
+ * What the caller sees to. No pointer is NULL, not even beside a length of 0; each is to 8-byte aligned memory, and nothing
+ * that is lent (settings and answers too) overlaps. The caller's floating-point mode is the usual one: rounding to nearest
+ * even, subnormals kept (no flush to zero, so no -ffast-math in the program that is linked). The library keeps nothing between
+ * calls; calls on different buffers may run at the same time.
  */
 #ifndef BROTHWAGON_H
 #define BROTHWAGON_H
@@ -34,7 +39,7 @@
 extern "C" {
 #endif
 
-/* The kinds of a face. A number that a kind does not carry is not looked at. Any other kind gives 5. */
+/* The kinds of a face. A number that a kind does not carry is not looked at. Any other kind gives 5 where faces are tested. */
 enum {
     BROTHWAGON_PERIODIC = 0,
     BROTHWAGON_NO_SLIP = 1,

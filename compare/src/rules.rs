@@ -51,6 +51,7 @@ fn applies(number: u32, case: &Case) -> bool {
         },
         7 => case.faces().iter().any(|face| ![0, 1, 3].contains(&face.kind)),
         8 => lossy(case),
+        // All nine pairs of components in -1..=1 are rows of E, and there are no others.
         11 => !(-1..=1).contains(&case.ex) || !(-1..=1).contains(&case.ey),
         _ => unreachable!("no test has the number {number}"),
     }

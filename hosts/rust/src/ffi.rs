@@ -7,7 +7,8 @@
 #[repr(C)]
 #[derive(Clone, Copy, Debug, Default, PartialEq)]
 pub struct Face {
-    /// 0 Periodic, 1 NoSlip, 2 MovingWall, 3 Symmetry, 4 Velocity, 5 Pressure; any other is refused with 5.
+    /// 0 Periodic, 1 NoSlip, 2 MovingWall, 3 Symmetry, 4 Velocity, 5 Pressure; any other is refused with 5 where faces
+    /// are tested.
     pub kind: u64,
     /// The kind's first number, where it has one.
     pub a: f64,
@@ -75,7 +76,8 @@ mod c {
 }
 
 // Safety, of every call below: each pointer is to a live slice, array or struct, with its own length beside it where the
-// header has one; what the library writes is borrowed as `&mut`, so nothing overlaps; and every bit pattern is an f64.
+// header has one, and so neither null nor out of alignment, even if empty; what the library writes is borrowed as `&mut`, so
+// nothing overlaps; and every bit pattern is an f64.
 
 /// Fills `f` with the equilibria of the table.
 pub fn initialize(s: &Settings, table: &[f64], f: &mut [f64]) -> u32 {
@@ -134,7 +136,7 @@ pub fn lossless(s: &Settings) -> (u32, [u64; 4]) {
     (number, answer)
 }
 
-/// Leaves in `post` what streaming with faces makes `f` of.
+/// Leaves in `post` the one post-collision buffer from which streaming with faces gives `f`.
 pub fn reverse(s: &Settings, f: &[f64], post: &mut [f64]) -> u32 {
     unsafe { c::brothwagon_reverse(s, f.as_ptr(), f.len(), post.as_mut_ptr(), post.len()) }
 }

@@ -1,7 +1,8 @@
 //! Brothwagon: the D2Q9 lattice Boltzmann solver, proved, for Rust.
 //!
 //! The arithmetic is the proved library's; this crate lends it buffers and turns its numbers into a [`Refusal`]. Every
-//! operation ends on every input, and a refused one leaves every buffer as it was.
+//! operation ends on every input, and a refused one leaves every buffer as it was, but for a steady run that meets a bad
+//! snapshot (number 9). The floating-point mode is the caller's, and must be the usual one: include/brothwagon.h says which.
 //!
 //! A cavity whose lid moves to the right:
 //!

@@ -29,9 +29,11 @@ pub enum Refusal {
     Run,
     /// 11: two components that are no direction's.
     NoDirection,
+    /// A number that this crate has no meaning for, from a library that it was not written for.
+    Unknown(u32),
 }
 
-/// Every refusal, in the order of the numbers.
+/// Every refusal with a meaning, in the order of the numbers.
 const ALL: [Refusal; 11] = [
     Refusal::Sides,
     Refusal::Length,
@@ -51,7 +53,7 @@ impl Refusal {
     pub(crate) fn of(number: u32) -> Result<(), Refusal> {
         match number {
             0 => Ok(()),
-            _ => Err(ALL[number as usize - 1]),
+            _ => Err(ALL.get(number as usize - 1).copied().unwrap_or(Refusal::Unknown(number))),
         }
     }
 
@@ -78,6 +80,7 @@ impl Refusal {
             Refusal::BadSnapshot { .. } => (9, "a snapshot has a velocity component that is not finite"),
             Refusal::Run => (10, "the tolerance is NaN, or there are more than 1,000,000 steps"),
             Refusal::NoDirection => (11, "the two components are those of no direction"),
+            Refusal::Unknown(number) => (number, "this crate has no meaning for it: the library is another one"),
         }
     }
 }
@@ -106,5 +109,7 @@ mod tests {
             assert_eq!(Refusal::of(number), Err(refusal));
         }
         assert_eq!(Refusal::of(0), Ok(()));
+        assert_eq!(Refusal::of(12), Err(Refusal::Unknown(12)));
+        assert_eq!(Refusal::of(u32::MAX).unwrap_err().number(), u32::MAX);
     }
 }

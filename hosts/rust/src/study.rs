@@ -161,7 +161,7 @@ impl Study {
         })
     }
 
-    /// Leaves in the post-collision buffer what streaming with faces makes these populations of.
+    /// Leaves in its buffer the one post-collision buffer from which streaming with faces gives these populations.
     pub fn reverse(&mut self) -> Result<(), Refusal> {
         Refusal::of(ffi::reverse(&self.words(), &self.f, &mut self.post))
     }
