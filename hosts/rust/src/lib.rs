@@ -39,10 +39,14 @@
 
 #[allow(unsafe_code)]
 pub mod ffi;
+mod file;
+mod fingerprint;
 mod refusal;
 mod settings;
 mod study;
 
+pub use file::{Start, StudyFile, Wrong};
+pub use fingerprint::fingerprint;
 pub use refusal::Refusal;
 pub use settings::{Collision, Face, MAGIC_BOUNCE_BACK, Settings, trt_omega_minus};
 pub use study::{Lossless, Steady, Study, dir_index};

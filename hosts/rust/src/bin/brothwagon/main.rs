@@ -1,14 +1,13 @@
 //! The command `brothwagon`: runs a study file on the proved library.
 
-mod file;
 mod progress;
 
-use brothwagon::{Lossless, Refusal, Study};
-use file::StudyFile;
+use brothwagon::{Lossless, Refusal, Study, StudyFile, fingerprint};
 use progress::Progress;
 use std::env;
 use std::fmt::Display;
 use std::fs;
+use std::io::{self, ErrorKind, Write, stderr, stdout};
 use std::process::ExitCode;
 use std::time::Instant;
 
@@ -25,7 +24,7 @@ STUDY is a text file; `#` starts a comment. A line for each of these; the first 
 
   sides NX NY                 cells in x and y
   viscosity NUMBER
-  steps NUMBER                steps of `run`, and the most of `steady`
+  steps NUMBER                steps of `run`, any number (in runs of at most 1,000,000); the most of `steady`, at most 1,000,000
   force FX FY                 none if left out
   collision KIND              bgk, mrt, trt RATE (the minus rate) or trt magic NUMBER; trt magic 3/16 if left out
   x-min FACE                  and x-max, y-min, y-max; FACE is periodic, no-slip, moving-wall UX UY, symmetry,
@@ -34,13 +33,17 @@ STUDY is a text file; `#` starts a comment. A line for each of these; the first 
   steady TOLERANCE CHECK_EVERY  1e-9 100 if left out
 
 A number may be a division, as 3/16. The fingerprint is FNV-1a, of 64 bits, over the populations in the order of the buffer,
-each as its 64-bit pattern, lowest byte first: equal states, equal fingerprints, on every machine.";
+each as its 64-bit pattern, lowest byte first: equal states, equal fingerprints, on every machine.
+
+Exit status: 0 done, 1 refused, 2 the command or the study is not understood, 3 the answer cannot be written.";
 
 /// Why the command ended without an answer.
 enum Failure {
     /// The command or the study file is not understood.
     Unreadable(String),
     Refused(Refusal),
+    /// The answer cannot be written.
+    Unwritten(io::Error),
 }
 
 impl From<Refusal> for Failure {
@@ -49,54 +52,56 @@ impl From<Refusal> for Failure {
     }
 }
 
-fn main() -> ExitCode {
-    let words: Vec<String> = env::args().skip(1).collect();
-    let words: Vec<&str> = words.iter().map(String::as_str).collect();
-    match command(&words) {
-        Ok(()) => ExitCode::SUCCESS,
-        Err(Failure::Refused(refusal)) => {
-            eprintln!("brothwagon: {refusal}");
-            ExitCode::from(1)
-        }
-        Err(Failure::Unreadable(why)) => {
-            eprintln!("brothwagon: {why}");
-            ExitCode::from(2)
-        }
+impl From<io::Error> for Failure {
+    fn from(why: io::Error) -> Failure {
+        Failure::Unwritten(why)
     }
 }
 
-fn command(words: &[&str]) -> Result<(), Failure> {
+fn main() -> ExitCode {
+    let words: Vec<String> = env::args().skip(1).collect();
+    let words: Vec<&str> = words.iter().map(String::as_str).collect();
+    let mut out = stdout().lock();
+    match command(&words, &mut out).and_then(|()| Ok(out.flush()?)) {
+        Ok(()) => ExitCode::SUCCESS,
+        Err(Failure::Refused(refusal)) => failed(refusal, 1),
+        Err(Failure::Unreadable(why)) => failed(why, 2),
+        // A reader that has seen enough.
+        Err(Failure::Unwritten(why)) if why.kind() == ErrorKind::BrokenPipe => ExitCode::SUCCESS,
+        Err(Failure::Unwritten(why)) => failed(why, 3),
+    }
+}
+
+fn failed(why: impl Display, status: u8) -> ExitCode {
+    // Where there is no one to tell, the status still does.
+    let _ = writeln!(stderr(), "brothwagon: {why}");
+    ExitCode::from(status)
+}
+
+fn command(words: &[&str], out: &mut impl Write) -> Result<(), Failure> {
     match words {
-        ["run", path] => run(path, read(path)?),
+        ["run", path] => run(path, read(path)?, out),
         ["run", path, "--steps", steps] | ["run", "--steps", steps, path] => {
             let steps =
                 steps.parse().map_err(|_| Failure::Unreadable(format!("--steps takes a whole number, not `{steps}`")))?;
-            run(path, StudyFile { steps, ..read(path)? })
+            run(path, StudyFile { steps, ..read(path)? }, out)
         }
-        ["steady", path] => steady(path, read(path)?),
-        ["lossless", path] => lossless(read(path)?),
-        [] | ["help" | "--help" | "-h"] => {
-            println!("{HELP}");
-            Ok(())
-        }
+        ["steady", path] => steady(path, read(path)?, out),
+        ["lossless", path] => lossless(read(path)?, out),
+        [] | ["help" | "--help" | "-h"] => Ok(writeln!(out, "{HELP}")?),
         _ => Err(Failure::Unreadable(format!("`{}` is no command; brothwagon --help lists them", words.join(" ")))),
     }
 }
 
 fn read(path: &str) -> Result<StudyFile, Failure> {
     let text = fs::read_to_string(path).map_err(|why| Failure::Unreadable(format!("{path}: {why}")))?;
-    file::read(&text).map_err(|wrong| Failure::Unreadable(format!("{path}: {wrong}")))
+    StudyFile::read(&text).map_err(|wrong| Failure::Unreadable(format!("{path}: {wrong}")))
 }
 
-/// A study at its start.
-fn started(file: &StudyFile) -> Result<Study, Refusal> {
-    let mut study = Study::new(file.settings)?;
-    study.initialize_with(|x, y| file.start.cell(file.settings.nx, file.settings.ny, x, y))?;
-    Ok(study)
-}
-
-fn run(path: &str, file: StudyFile) -> Result<(), Failure> {
-    let mut study = started(&file)?;
+fn run(path: &str, file: StudyFile, out: &mut impl Write) -> Result<(), Failure> {
+    let mut study = file.started()?;
+    // The library is asked even if there is no step to take: it may refuse the settings.
+    study.run(0)?;
     let mut progress = Progress::of(file.steps);
     let began = Instant::now();
     let mut done = 0;
@@ -108,38 +113,38 @@ fn run(path: &str, file: StudyFile) -> Result<(), Failure> {
     }
     progress.end();
     let seconds = began.elapsed().as_secs_f64();
-    title(path, &file);
-    line("steps", file.steps);
-    line("steps per second", format!("{:.1}", file.steps as f64 / seconds));
-    state(&study)
+    title(out, path, &file)?;
+    line(out, "steps", file.steps)?;
+    line(out, "steps per second", format!("{:.1}", file.steps as f64 / seconds))?;
+    state(out, &study)
 }
 
-fn steady(path: &str, file: StudyFile) -> Result<(), Failure> {
-    let mut study = started(&file)?;
+fn steady(path: &str, file: StudyFile, out: &mut impl Write) -> Result<(), Failure> {
+    let mut study = file.started()?;
     let began = Instant::now();
     let end = study.run_to_steady_state(file.tolerance, file.steps, file.check_every)?;
     let seconds = began.elapsed().as_secs_f64();
-    title(path, &file);
-    line(if end.settled { "settled, steps" } else { "ran out, steps" }, end.steps);
-    line("residual", exact(end.residual));
-    line("steps per second", format!("{:.1}", end.steps as f64 / seconds));
-    state(&study)
+    title(out, path, &file)?;
+    line(out, if end.settled { "settled, steps" } else { "ran out, steps" }, end.steps)?;
+    line(out, "residual", exact(end.residual))?;
+    line(out, "steps per second", format!("{:.1}", end.steps as f64 / seconds))?;
+    state(out, &study)
 }
 
-fn lossless(file: StudyFile) -> Result<(), Failure> {
+fn lossless(file: StudyFile, out: &mut impl Write) -> Result<(), Failure> {
     match Study::new(file.settings)?.lossless()? {
-        Lossless::Lossless => println!("lossless"),
-        Lossless::Lossy { x, y, direction } => println!("lossy {x} {y} {direction}"),
+        Lossless::Lossless => writeln!(out, "lossless")?,
+        Lossless::Lossy { x, y, direction } => writeln!(out, "lossy {x} {y} {direction}")?,
     }
     Ok(())
 }
 
-fn title(path: &str, file: &StudyFile) {
-    println!("{path}: {} by {}", file.settings.nx, file.settings.ny);
+fn title(out: &mut impl Write, path: &str, file: &StudyFile) -> io::Result<()> {
+    writeln!(out, "{path}: {} by {}", file.settings.nx, file.settings.ny)
 }
 
-fn line(name: &str, value: impl Display) {
-    println!("  {name:<18}{value}");
+fn line(out: &mut impl Write, name: &str, value: impl Display) -> io::Result<()> {
+    writeln!(out, "  {name:<18}{value}")
 }
 
 /// The shortest decimal that stands for this number alone.
@@ -147,35 +152,9 @@ fn exact(number: f64) -> String {
     format!("{number:?}")
 }
 
-fn state(study: &Study) -> Result<(), Failure> {
-    line("mass", exact(study.total_mass()?));
-    line("kinetic energy", exact(study.kinetic_energy()?));
-    line("fingerprint", format!("{:016x}", fingerprint(study.f())));
+fn state(out: &mut impl Write, study: &Study) -> Result<(), Failure> {
+    line(out, "mass", exact(study.total_mass()?))?;
+    line(out, "kinetic energy", exact(study.kinetic_energy()?))?;
+    line(out, "fingerprint", format!("{:016x}", fingerprint(study.f())))?;
     Ok(())
-}
-
-/// FNV-1a over the patterns, lowest byte first.
-fn fingerprint(f: &[f64]) -> u64 {
-    fnv_1a(f.iter().flat_map(|entry| entry.to_bits().to_le_bytes()))
-}
-
-/// FNV-1a of 64 bits.
-fn fnv_1a(bytes: impl Iterator<Item = u8>) -> u64 {
-    bytes.fold(0xcbf2_9ce4_8422_2325, |hash, byte| (hash ^ u64::from(byte)).wrapping_mul(0x100_0000_01b3))
-}
-
-#[cfg(test)]
-mod tests {
-    use super::*;
-
-    #[test]
-    fn fnv_1a_gives_its_published_values() {
-        assert_eq!(fnv_1a("".bytes()), 0xcbf2_9ce4_8422_2325);
-        assert_eq!(fnv_1a("foobar".bytes()), 0x8594_4171_f739_67e8);
-    }
-
-    #[test]
-    fn the_fingerprint_sees_the_sign_of_zero() {
-        assert_ne!(fingerprint(&[0.0]), fingerprint(&[-0.0]));
-    }
 }

@@ -1,0 +1,438 @@
+use crate::{Collision, Face, MAGIC_BOUNCE_BACK, Refusal, Settings, Study};
+use std::error::Error;
+use std::fmt;
+
+/// What a study file says: a line for each thing, its name first; `#` starts a comment. `brothwagon --help` lists the lines.
+#[derive(Clone, Debug, PartialEq)]
+pub struct StudyFile {
+    /// The settings.
+    pub settings: Settings,
+    /// The magic number that the settings' Trt rate was worked out from, if it was.
+    pub magic: Option<f64>,
+    /// What the populations start from.
+    pub start: Start,
+    /// Steps of a run, and the most of a steady run.
+    pub steps: u64,
+    /// The tolerance of a steady run.
+    pub tolerance: f64,
+    /// Steps from one check of a steady run to the next.
+    pub check_every: u64,
+}
+
+/// What the populations start from: density, ux and uy, for every cell or as the height of a wave.
+#[derive(Clone, Copy, Debug, PartialEq)]
+pub enum Start {
+    /// The same in every cell.
+    Uniform(f64, f64, f64),
+    /// ux is a wave over y, and uy a wave over x.
+    Shear(f64, f64, f64),
+}
+
+/// What is wrong with a study file.
+#[derive(Clone, Debug, PartialEq)]
+pub struct Wrong {
+    /// The line, counted from 1; the one after the last if a line is missing.
+    pub line: usize,
+    /// What should stand there.
+    pub expected: String,
+    /// What stands there.
+    pub found: String,
+}
+
+impl fmt::Display for Wrong {
+    fn fmt(&self, out: &mut fmt::Formatter) -> fmt::Result {
+        write!(out, "line {}: expected {}, found {}", self.line, self.expected, self.found)
+    }
+}
+
+impl Error for Wrong {}
+
+const FACE: &str = "periodic, no-slip, moving-wall UX UY, symmetry, velocity UX UY or pressure DENSITY";
+
+/// A Trt rate may be given by a magic number, which asks for the viscosity, on whatever line it stands.
+enum Rates {
+    Given(Collision),
+    Magic(f64),
+}
+
+/// What has been read so far.
+#[derive(Default)]
+struct Draft {
+    sides: Option<(usize, usize)>,
+    viscosity: Option<f64>,
+    force: Option<(f64, f64)>,
+    collision: Option<Rates>,
+    x_min: Option<Face>,
+    x_max: Option<Face>,
+    y_min: Option<Face>,
+    y_max: Option<Face>,
+    start: Option<Start>,
+    steps: Option<u64>,
+    steady: Option<(f64, u64)>,
+}
+
+impl StudyFile {
+    /// Reads the text of a study file.
+    pub fn read(text: &str) -> Result<StudyFile, Wrong> {
+        let mut draft = Draft::default();
+        for (above, line) in text.lines().enumerate() {
+            let said = line.split('#').next().unwrap_or_default();
+            let words: Vec<&str> = said.split_whitespace().collect();
+            if let [name, values @ ..] = &words[..] {
+                draft.take(name, values).map_err(|expected| Wrong { line: above + 1, expected, found: quoted(&words) })?;
+            }
+        }
+        draft.finish().map_err(|missing| Wrong {
+            line: text.lines().count() + 1,
+            expected: format!("a line `{missing}`"),
+            found: "the end".to_string(),
+        })
+    }
+
+    /// The study at its start.
+    pub fn started(&self) -> Result<Study, Refusal> {
+        let mut study = Study::new(self.settings)?;
+        study.initialize_with(|x, y| self.start.cell(self.settings.nx, self.settings.ny, x, y))?;
+        Ok(study)
+    }
+}
+
+/// The words of a line, to be shown: on one line, and not too many.
+fn quoted(words: &[&str]) -> String {
+    const MOST: usize = 60;
+    let said = words.join(" ");
+    let shown: String = said.chars().take(MOST).flat_map(char::escape_debug).collect();
+    if said.chars().nth(MOST).is_some() { format!("`{shown}`..") } else { format!("`{shown}`") }
+}
+
+impl Draft {
+    fn take(&mut self, name: &str, values: &[&str]) -> Result<(), String> {
+        match name {
+            "sides" => once(&mut self.sides, pair(values, whole), name, "sides NX NY, two whole numbers"),
+            "viscosity" => once(&mut self.viscosity, single(values, number), name, "viscosity NUMBER"),
+            "force" => once(&mut self.force, pair(values, number), name, "force FX FY"),
+            "collision" => {
+                once(&mut self.collision, collision(values), name, "collision bgk, mrt, trt RATE or trt magic NUMBER")
+            }
+            "x-min" => once(&mut self.x_min, face(values), name, &format!("x-min {FACE}")),
+            "x-max" => once(&mut self.x_max, face(values), name, &format!("x-max {FACE}")),
+            "y-min" => once(&mut self.y_min, face(values), name, &format!("y-min {FACE}")),
+            "y-max" => once(&mut self.y_max, face(values), name, &format!("y-max {FACE}")),
+            "start" => once(&mut self.start, start(values), name, "start uniform DENSITY UX UY or start shear DENSITY UX UY"),
+            "steps" => once(&mut self.steps, single(values, whole), name, "steps NUMBER, a whole one"),
+            "steady" => once(&mut self.steady, steady(values), name, "steady TOLERANCE CHECK_EVERY"),
+            _ => Err("sides, viscosity, force, collision, x-min, x-max, y-min, y-max, start, steps or steady".to_string()),
+        }
+    }
+
+    /// The study, with what it left out as in the solver's source: no force, Trt with 3/16, periodic, at rest.
+    fn finish(self) -> Result<StudyFile, &'static str> {
+        let (nx, ny) = self.sides.ok_or("sides NX NY")?;
+        let nu = self.viscosity.ok_or("viscosity NUMBER")?;
+        let (fx, fy) = self.force.unwrap_or((0.0, 0.0));
+        let (collision, magic) = match self.collision.unwrap_or(Rates::Magic(MAGIC_BOUNCE_BACK)) {
+            Rates::Given(collision) => (collision, None),
+            Rates::Magic(magic) => (Collision::trt_with_magic(nu, magic), Some(magic)),
+        };
+        let (tolerance, check_every) = self.steady.unwrap_or((1e-9, 100));
+        Ok(StudyFile {
+            settings: Settings {
+                nx,
+                ny,
+                nu,
+                fx,
+                fy,
+                collision,
+                x_min: self.x_min.unwrap_or_default(),
+                x_max: self.x_max.unwrap_or_default(),
+                y_min: self.y_min.unwrap_or_default(),
+                y_max: self.y_max.unwrap_or_default(),
+            },
+            magic,
+            start: self.start.unwrap_or(Start::Uniform(1.0, 0.0, 0.0)),
+            steps: self.steps.ok_or("steps NUMBER")?,
+            tolerance,
+            check_every,
+        })
+    }
+}
+
+/// Keeps what a line says, once.
+fn once<T>(kept: &mut Option<T>, value: Option<T>, name: &str, expected: &str) -> Result<(), String> {
+    if kept.is_some() {
+        return Err(format!("no second line `{name}`"));
+    }
+    *kept = Some(value.ok_or(expected)?);
+    Ok(())
+}
+
+fn single<T>(words: &[&str], read: fn(&str) -> Option<T>) -> Option<T> {
+    match words {
+        [word] => read(word),
+        _ => None,
+    }
+}
+
+fn pair<T>(words: &[&str], read: fn(&str) -> Option<T>) -> Option<(T, T)> {
+    match words {
+        [a, b] => Some((read(a)?, read(b)?)),
+        _ => None,
+    }
+}
+
+fn whole<T: std::str::FromStr>(word: &str) -> Option<T> {
+    word.parse().ok()
+}
+
+/// A number as `0.1875`, or as a division that is rounded once, `3/16`.
+fn number(word: &str) -> Option<f64> {
+    match word.split_once('/') {
+        Some((above, below)) => Some(above.parse::<f64>().ok()? / below.parse::<f64>().ok()?),
+        None => word.parse().ok(),
+    }
+}
+
+fn collision(words: &[&str]) -> Option<Rates> {
+    Some(match words {
+        ["bgk"] => Rates::Given(Collision::Bgk),
+        ["mrt"] => Rates::Given(Collision::Mrt),
+        ["trt", rate] => Rates::Given(Collision::Trt(number(rate)?)),
+        ["trt", "magic", magic] => Rates::Magic(number(magic)?),
+        _ => return None,
+    })
+}
+
+fn face(words: &[&str]) -> Option<Face> {
+    Some(match words {
+        ["periodic"] => Face::Periodic,
+        ["no-slip"] => Face::NoSlip,
+        ["moving-wall", ux, uy] => Face::MovingWall(number(ux)?, number(uy)?),
+        ["symmetry"] => Face::Symmetry,
+        ["velocity", ux, uy] => Face::Velocity(number(ux)?, number(uy)?),
+        ["pressure", rho] => Face::Pressure(number(rho)?),
+        _ => return None,
+    })
+}
+
+fn start(words: &[&str]) -> Option<Start> {
+    match words {
+        ["uniform", rho, ux, uy] => Some(Start::Uniform(number(rho)?, number(ux)?, number(uy)?)),
+        ["shear", rho, ux, uy] => Some(Start::Shear(number(rho)?, number(ux)?, number(uy)?)),
+        _ => None,
+    }
+}
+
+fn steady(words: &[&str]) -> Option<(f64, u64)> {
+    match words {
+        [tolerance, every] => Some((number(tolerance)?, whole(every)?)),
+        _ => None,
+    }
+}
+
+impl Start {
+    /// Density, ux and uy of cell (x, y) on a grid of nx by ny.
+    pub fn cell(self, nx: usize, ny: usize, x: usize, y: usize) -> [f64; 3] {
+        match self {
+            Start::Uniform(rho, ux, uy) => [rho, ux, uy],
+            Start::Shear(rho, ux, uy) => [rho, ux * wave(y, ny), uy * wave(x, nx)],
+        }
+    }
+}
+
+/// A wave from -1 to 1, one period over `side` cells: two arcs of a parabola. Not a sine, whose last bits are the machine's.
+fn wave(at: usize, side: usize) -> f64 {
+    let t = 2.0 * (at as f64 + 0.5) / side as f64;
+    if t < 1.0 { 4.0 * t * (1.0 - t) } else { -4.0 * (t - 1.0) * (2.0 - t) }
+}
+
+#[cfg(test)]
+mod tests {
+    use super::*;
+
+    const SHORT: &str = "sides 3 2\nviscosity 0.1\nsteps 5\n";
+
+    fn wrong(text: &str) -> String {
+        StudyFile::read(text).unwrap_err().to_string()
+    }
+
+    #[test]
+    fn what_is_left_out_is_as_in_the_source() {
+        let study = StudyFile::read(SHORT).unwrap();
+        assert_eq!(study.settings, Settings::new(3, 2, 0.1));
+        assert_eq!((study.start, study.steps), (Start::Uniform(1.0, 0.0, 0.0), 5));
+    }
+
+    #[test]
+    fn everything_can_be_said() {
+        let text = "# all of it\ncollision trt magic 3/16 # before the viscosity\nforce 1e-5 0\nx-min velocity 0.1 0\n\
+                    x-max pressure 1\ny-min no-slip\ny-max moving-wall -0.1 0\nstart shear 1 0.1 0.01\nsteady 1/8 7\n";
+        let study = StudyFile::read(&format!("{text}{SHORT}")).unwrap();
+        let expected = Settings {
+            fx: 1e-5,
+            x_min: Face::Velocity(0.1, 0.0),
+            x_max: Face::Pressure(1.0),
+            y_min: Face::NoSlip,
+            y_max: Face::MovingWall(-0.1, 0.0),
+            ..Settings::new(3, 2, 0.1)
+        };
+        assert_eq!(study.settings, expected);
+        assert_eq!(study.start, Start::Shear(1.0, 0.1, 0.01));
+        assert_eq!((study.tolerance, study.check_every), (0.125, 7));
+    }
+
+    #[test]
+    fn a_rate_may_be_given_as_it_is() {
+        assert_eq!(StudyFile::read(&format!("{SHORT}collision trt 1.25")).unwrap().settings.collision, Collision::Trt(1.25));
+        assert_eq!(StudyFile::read(&format!("{SHORT}collision bgk")).unwrap().settings.collision, Collision::Bgk);
+    }
+
+    #[test]
+    fn a_wrong_line_gets_its_number_and_what_was_expected() {
+        assert_eq!(wrong(&format!("{SHORT}\nsides 1 1")), "line 5: expected no second line `sides`, found `sides 1 1`");
+        assert_eq!(wrong("# a comment\nsides 3"), "line 2: expected sides NX NY, two whole numbers, found `sides 3`");
+        assert_eq!(wrong("y-max moving-wall 0.1"), format!("line 1: expected y-max {FACE}, found `y-max moving-wall 0.1`"));
+        assert!(wrong("faces periodic").ends_with("or steady, found `faces periodic`"));
+        assert_eq!(wrong("sides 3 2\nsteps 5"), "line 3: expected a line `viscosity NUMBER`, found the end");
+        assert!(wrong("\u{feff}sides 3 2").ends_with(r"found `\u{feff}sides 3 2`"));
+        assert!(wrong(&"steps".repeat(1000)).ends_with(&format!("`{}`..", "steps".repeat(12))));
+    }
+
+    #[test]
+    fn a_wave_rises_falls_and_comes_back() {
+        let eight: Vec<f64> = (0..8).map(|at| wave(at, 8)).collect();
+        assert_eq!(eight, [0.4375, 0.9375, 0.9375, 0.4375, -0.4375, -0.9375, -0.9375, -0.4375]);
+    }
+
+    /// Made-up numbers, the same on every machine: Steele, Lea and Flood's SplitMix64.
+    struct Made(u64);
+
+    impl Made {
+        fn below(&mut self, limit: usize) -> usize {
+            self.0 = self.0.wrapping_add(0x9e37_79b9_7f4a_7c15);
+            let a = (self.0 ^ (self.0 >> 30)).wrapping_mul(0xbf58_476d_1ce4_e5b9);
+            let b = (a ^ (a >> 27)).wrapping_mul(0x94d0_49bb_1331_11eb);
+            ((b ^ (b >> 31)) % limit as u64) as usize
+        }
+
+        fn pick<'a>(&mut self, from: &[&'a str]) -> &'a str {
+            from[self.below(from.len())]
+        }
+    }
+
+    const STUDIES: [&str; 3] = [
+        include_str!("../../../studies/cavity.study"),
+        include_str!("../../../studies/channel.study"),
+        include_str!("../../../studies/shear.study"),
+    ];
+
+    /// Pieces of study files, and of what is none.
+    const PIECES: [&str; 56] = [
+        "sides",
+        "viscosity",
+        "steps",
+        "force",
+        "collision",
+        "x-min",
+        "x-max",
+        "y-min",
+        "y-max",
+        "start",
+        "steady",
+        "bgk",
+        "mrt",
+        "trt",
+        "magic",
+        "periodic",
+        "no-slip",
+        "moving-wall",
+        "symmetry",
+        "velocity",
+        "pressure",
+        "uniform",
+        "shear",
+        "0",
+        "1",
+        "3/16",
+        "-0",
+        "1e-9",
+        "1e400",
+        "nan",
+        "inf",
+        "0/0",
+        "1/2/3",
+        "/",
+        "4096",
+        "18446744073709551615",
+        "18446744073709551616",
+        "-1",
+        "+",
+        ".",
+        "e",
+        "_",
+        "#",
+        " ",
+        "\n",
+        "\r",
+        "\r\n",
+        "\t",
+        "\0",
+        "\u{1b}",
+        "é",
+        "\u{feff}",
+        "\u{2028}",
+        "\u{301}",
+        "∞",
+        "\u{10ffff}",
+    ];
+
+    /// A study file with some changes, or a heap of pieces.
+    fn made_up(made: &mut Made) -> String {
+        if made.below(4) == 0 {
+            let pieces = made.below(40);
+            return (0..pieces).map(|_| made.pick(&PIECES).to_string() + made.pick(&["", " ", "\n"])).collect();
+        }
+        let mut text: Vec<char> = made.pick(&STUDIES).chars().collect();
+        for _ in 0..made.below(6) {
+            let from = made.below(text.len() + 1);
+            let to = (from + made.below(12)).min(text.len());
+            let put: Vec<char> = match made.below(3) {
+                0 => Vec::new(),
+                1 => made.pick(&PIECES).chars().collect(),
+                _ => {
+                    let other = made.below(text.len() + 1);
+                    text[other..(other + made.below(60)).min(text.len())].to_vec()
+                }
+            };
+            text.splice(from..to, put);
+        }
+        text.into_iter().collect()
+    }
+
+    /// Reads a made-up text, and says whether it is a study. The order of its lines is nothing to one that is; of one that is
+    /// not, the line is the first that is wrong, and the message is one short line.
+    fn is_study(text: &str) -> bool {
+        let lines: Vec<&str> = text.lines().collect();
+        match StudyFile::read(text) {
+            Ok(study) => {
+                let turned: Vec<&str> = lines.into_iter().rev().collect();
+                assert_eq!(format!("{:?}", StudyFile::read(&turned.join("\n")).unwrap()), format!("{study:?}"), "{text:?}");
+                true
+            }
+            Err(wrong) => {
+                let said = wrong.to_string();
+                assert!(said.starts_with(&format!("line {}: expected {}, found ", wrong.line, wrong.expected)), "{text:?}");
+                assert!(said.len() < 1000 && !said.contains(char::is_control), "{text:?}: {said:?}");
+                let above = lines[..wrong.line - 1].join("\n");
+                assert!(StudyFile::read(&above).map_or_else(|end| end.found == "the end", |_| true), "{text:?}: {said}");
+                false
+            }
+        }
+    }
+
+    #[test]
+    fn any_text_is_a_study_or_has_a_line_that_is_not_as_expected() {
+        let mut made = Made(1);
+        let studies = (0..10_000).filter(|_| is_study(&made_up(&mut made))).count();
+        assert!((500..9_500).contains(&studies), "{studies} of the texts are studies");
+    }
+}
