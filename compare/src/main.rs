@@ -8,6 +8,7 @@ mod made;
 mod random;
 mod rules;
 mod shrink;
+mod studies;
 
 use case::{BUFFERS, Case, OPERATIONS};
 use comparison::{Comparison, Difference};
@@ -18,11 +19,14 @@ use std::time::{Duration, Instant};
 
 const HELP: &str = "\
 compare/run [SOURCE] [--cases N] [--seed N] [--quick] [--only PLACE]
+compare/run [SOURCE] --studies
 
 Compares the proved library with the Rust of SOURCE (../shared/docs/src by default), through the C interface, on N made-up cases
 (1,000,000; --quick: 100,000). Each case is one call: its number, its answers and every entry of every lent buffer are compared,
 and so are refused calls, by the table of the rules. --only compares one case of the list that the seed starts, and shows it.
-The first difference that is not listed ends it, with the smallest case found that still differs, and exit status 1.";
+The first difference that is not listed ends it, with the smallest case found that still differs, and exit status 1.
+--studies runs each study of the repository for 20 steps instead, prints the fingerprint that the Rust gives it, and ends with
+status 1 where the library gives another.";
 
 /// What to compare.
 struct Plan {
@@ -42,6 +46,9 @@ struct Tally {
 
 fn main() -> ExitCode {
     let words: Vec<String> = env::args().skip(1).collect();
+    if words == ["--studies"] {
+        return studies::compare();
+    }
     let Some(plan) = plan(&words) else {
         println!("{HELP}");
         return if words == ["--help"] { ExitCode::SUCCESS } else { ExitCode::from(2) };

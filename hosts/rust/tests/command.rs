@@ -1,6 +1,14 @@
 //! The command, from outside: what it prints and how it ends.
 
-use std::process::{Command, Output};
+use std::fs;
+use std::process::{Command, Output, Stdio};
+
+/// Writes a study file for a test, and gives its path.
+fn study(name: &str, text: &str) -> String {
+    let path = format!("{}/{name}.study", env!("CARGO_TARGET_TMPDIR"));
+    fs::write(&path, text).unwrap();
+    path
+}
 
 /// The command's end on these words, with STUDIES/ for the folder of the studies.
 fn brothwagon(words: &str) -> Output {
@@ -21,19 +29,60 @@ fn failed(words: &str) -> (Option<i32>, String) {
     (end.status.code(), String::from_utf8(end.stderr).unwrap())
 }
 
+/// The value of a line of an answer.
+fn value<'a>(said: &'a str, name: &str) -> &'a str {
+    said.lines().find_map(|line| line.trim_start().strip_prefix(name)).unwrap().trim_start()
+}
+
+// `compare/run --studies` prints these fingerprints, from the solver's source.
 #[test]
 fn each_study_ends_in_the_state_that_the_solvers_source_gives() {
     let fingerprints = [("cavity", "924747a01440ed05"), ("channel", "abacbad02f25b937"), ("shear", "1d0e945d2cb8ba84")];
     for (study, fingerprint) in fingerprints {
         let said = out(&format!("run STUDIES/{study}.study --steps 20"));
-        let line = said.lines().find(|line| line.trim_start().starts_with("fingerprint")).unwrap();
-        assert!(line.ends_with(fingerprint), "{study}: {line}");
+        assert_eq!(value(&said, "fingerprint"), fingerprint, "{study}");
     }
+}
+
+#[test]
+fn a_run_of_no_steps_leaves_the_start_or_is_refused() {
+    let start = out("run STUDIES/shear.study --steps 0");
+    assert_eq!((value(&start, "steps"), value(&start, "mass")), ("0", "65536.0"));
+    let lines = ["viscosity -1", "viscosity 1\nforce inf 0", "viscosity 1\nx-min velocity 1 0", "viscosity 1\ncollision trt 3"];
+    for (line, number) in lines.into_iter().zip([3, 4, 5, 3]) {
+        let path = study("no-steps", &format!("sides 2 2\nsteps 0\n{line}\n"));
+        let (status, said) = failed(&format!("run {path}"));
+        assert_eq!(status, Some(1), "{line}");
+        assert!(said.starts_with(&format!("brothwagon: refused with number {number}: ")), "{line}: {said}");
+    }
+}
+
+#[test]
+fn a_steady_run_settles_runs_out_or_is_refused() {
+    let tube = "sides 3 8\nviscosity 0.1\nforce 1e-5 0\ny-min no-slip\ny-max no-slip\n";
+    let settled = study("settled", &format!("{tube}steps 100000\nsteady 1e-6 10\n"));
+    let said = out(&format!("steady {settled}"));
+    let steps: u64 = value(&said, "settled, steps").parse().unwrap();
+    assert!(0 < steps && steps < 100_000 && steps.is_multiple_of(10), "{said}");
+    assert!(value(&said, "residual").parse::<f64>().unwrap() < 1e-6, "{said}");
+    // As many steps of a plain run end in the same state.
+    let run = out(&format!("run {settled} --steps {steps}"));
+    assert_eq!(value(&said, "fingerprint"), value(&run, "fingerprint"));
+
+    let said = out(&format!("steady {}", study("ran-out", &format!("{tube}steps 7\nsteady 1e-6 10\n"))));
+    assert_eq!((value(&said, "ran out, steps"), value(&said, "residual")), ("7", "inf"));
+
+    let many = study("many", &format!("{tube}steps 1000001\n"));
+    let (status, said) = failed(&format!("steady {many}"));
+    assert_eq!(status, Some(1));
+    assert!(said.starts_with("brothwagon: refused with number 10: "), "{said}");
 }
 
 #[test]
 fn the_lossless_question_is_answered_or_refused() {
     assert_eq!(out("lossless STUDIES/shear.study"), "lossless\n");
+    let lossy = "sides 3 2\nviscosity 0.1\nsteps 0\nx-min symmetry\nx-max symmetry\ny-min no-slip\ny-max no-slip\n";
+    assert_eq!(out(&format!("lossless {}", study("lossy", lossy))), "lossy 2 0 5\n");
     let (status, said) = failed("lossless STUDIES/cavity.study");
     assert_eq!(status, Some(1));
     assert!(said.starts_with("brothwagon: refused with number 7: the lossless question"), "{said}");
@@ -49,6 +98,17 @@ fn a_wrong_file_or_command_is_told_apart_from_a_refusal() {
 }
 
 #[test]
-fn help_says_what_the_fingerprint_is() {
-    assert!(out("--help").contains("FNV-1a"));
+fn a_reader_that_has_seen_enough_ends_it_quietly() {
+    let mut command = Command::new(env!("CARGO_BIN_EXE_brothwagon"));
+    let mut child = command.arg("--help").stdout(Stdio::piped()).stderr(Stdio::piped()).spawn().unwrap();
+    drop(child.stdout.take());
+    let end = child.wait_with_output().unwrap();
+    assert!(end.status.success());
+    assert_eq!(String::from_utf8_lossy(&end.stderr), "");
+}
+
+#[test]
+fn help_says_what_the_fingerprint_and_the_statuses_are() {
+    let help = out("--help");
+    assert!(help.contains("FNV-1a") && help.contains("1 refused, 2 "));
 }
