@@ -119,8 +119,8 @@ impl Draft {
             "y-min" => once(&mut self.y_min, face(values), name, &format!("y-min {FACE}")),
             "y-max" => once(&mut self.y_max, face(values), name, &format!("y-max {FACE}")),
             "start" => once(&mut self.start, start(values), name, "start uniform DENSITY UX UY or start shear DENSITY UX UY"),
-            "steps" => once(&mut self.steps, single(values, whole), name, "steps NUMBER, a whole one"),
-            "steady" => once(&mut self.steady, steady(values), name, "steady TOLERANCE CHECK_EVERY"),
+            "steps" => once(&mut self.steps, single(values, whole), name, "steps NUMBER, a whole one below 2^64"),
+            "steady" => once(&mut self.steady, steady(values), name, "steady TOLERANCE CHECK_EVERY, the latter whole"),
             _ => Err("sides, viscosity, force, collision, x-min, x-max, y-min, y-max, start, steps or steady".to_string()),
         }
     }

@@ -94,6 +94,7 @@ fn a_wrong_file_or_command_is_told_apart_from_a_refusal() {
     assert_eq!(status, Some(2));
     assert!(said.contains("Cargo.toml: line 1: expected sides, viscosity,"), "{said}");
     assert_eq!(failed("walk").0, Some(2));
+    assert_eq!(failed("run").0, Some(2));
     assert_eq!(failed("run STUDIES/cavity.study --steps many").0, Some(2));
 }
 

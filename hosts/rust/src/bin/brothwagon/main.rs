@@ -5,6 +5,7 @@ mod progress;
 use brothwagon::{Lossless, Refusal, Study, StudyFile, fingerprint};
 use progress::Progress;
 use std::env;
+use std::ffi::OsString;
 use std::fmt::Display;
 use std::fs;
 use std::io::{self, ErrorKind, Write, stderr, stdout};
@@ -59,16 +60,14 @@ impl From<io::Error> for Failure {
 }
 
 fn main() -> ExitCode {
-    let words: Vec<String> = env::args().skip(1).collect();
-    let words: Vec<&str> = words.iter().map(String::as_str).collect();
     let mut out = stdout().lock();
-    match command(&words, &mut out).and_then(|()| Ok(out.flush()?)) {
+    match words().and_then(|words| command(&words, &mut out)).and_then(|()| Ok(out.flush()?)) {
         Ok(()) => ExitCode::SUCCESS,
         Err(Failure::Refused(refusal)) => failed(refusal, 1),
         Err(Failure::Unreadable(why)) => failed(why, 2),
         // A reader that has seen enough.
         Err(Failure::Unwritten(why)) if why.kind() == ErrorKind::BrokenPipe => ExitCode::SUCCESS,
-        Err(Failure::Unwritten(why)) => failed(why, 3),
+        Err(Failure::Unwritten(why)) => failed(format!("the answer cannot be written: {why}"), 3),
     }
 }
 
@@ -78,8 +77,15 @@ fn failed(why: impl Display, status: u8) -> ExitCode {
     ExitCode::from(status)
 }
 
-fn command(words: &[&str], out: &mut impl Write) -> Result<(), Failure> {
-    match words {
+/// The command's words.
+fn words() -> Result<Vec<String>, Failure> {
+    let word = |word: OsString| word.into_string().map_err(|word| Failure::Unreadable(format!("{word:?} is not in UTF-8")));
+    env::args_os().skip(1).map(word).collect()
+}
+
+fn command(words: &[String], out: &mut impl Write) -> Result<(), Failure> {
+    let words: Vec<&str> = words.iter().map(String::as_str).collect();
+    match words[..] {
         ["run", path] => run(path, read(path)?, out),
         ["run", path, "--steps", steps] | ["run", "--steps", steps, path] => {
             let steps =
@@ -89,7 +95,7 @@ fn command(words: &[&str], out: &mut impl Write) -> Result<(), Failure> {
         ["steady", path] => steady(path, read(path)?, out),
         ["lossless", path] => lossless(read(path)?, out),
         [] | ["help" | "--help" | "-h"] => Ok(writeln!(out, "{HELP}")?),
-        _ => Err(Failure::Unreadable(format!("`{}` is no command; brothwagon --help lists them", words.join(" ")))),
+        _ => Err(Failure::Unreadable(format!("`{}` is not understood; brothwagon --help lists the commands", words.join(" ")))),
     }
 }
 
