@@ -29,7 +29,7 @@ pub enum Refusal {
     Run,
     /// 11: two components that are no direction's.
     NoDirection,
-    /// A number that this crate has no meaning for, from a library that it was not written for.
+    /// A number that this crate does not know, of a library that it was not written for.
     Unknown(u32),
 }
 
@@ -80,7 +80,9 @@ impl Refusal {
             Refusal::BadSnapshot { .. } => (9, "a snapshot has a velocity component that is not finite"),
             Refusal::Run => (10, "the tolerance is NaN, or there are more than 1,000,000 steps"),
             Refusal::NoDirection => (11, "the two components are those of no direction"),
-            Refusal::Unknown(number) => (number, "this crate has no meaning for it: the library is another one"),
+            Refusal::Unknown(number) => {
+                (number, "a number that this crate does not know; the library is not the one it was written for")
+            }
         }
     }
 }
