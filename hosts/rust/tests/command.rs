@@ -3,17 +3,22 @@
 use std::fs;
 use std::process::{Command, Output, Stdio};
 
-/// Writes a study file for a test, and gives its path.
-fn study(name: &str, text: &str) -> String {
-    let path = format!("{}/{name}.study", env!("CARGO_TARGET_TMPDIR"));
-    fs::write(&path, text).unwrap();
-    path
+/// A path, with STUDIES for the folder of the studies and MADE for that of the files which a test makes.
+fn path(word: &str) -> String {
+    let studies = concat!(env!("CARGO_MANIFEST_DIR"), "/../../studies/");
+    word.replace("STUDIES/", studies).replace("MADE/", concat!(env!("CARGO_TARGET_TMPDIR"), "/"))
 }
 
-/// The command's end on these words, with STUDIES/ for the folder of the studies.
+/// Makes a study file for a test.
+fn study(name: &str, text: &str) -> String {
+    let made = format!("MADE/{name}.study");
+    fs::write(path(&made), text).unwrap();
+    made
+}
+
+/// The command's end on these words.
 fn brothwagon(words: &str) -> Output {
-    let words = words.replace("STUDIES/", concat!(env!("CARGO_MANIFEST_DIR"), "/../../studies/"));
-    Command::new(env!("CARGO_BIN_EXE_brothwagon")).args(words.split(' ')).output().unwrap()
+    Command::new(env!("CARGO_BIN_EXE_brothwagon")).args(words.split(' ').map(path)).output().unwrap()
 }
 
 fn out(words: &str) -> String {
@@ -50,8 +55,8 @@ fn a_run_of_no_steps_leaves_the_start_or_is_refused() {
     assert_eq!((value(&start, "steps"), value(&start, "mass")), ("0", "65536.0"));
     let lines = ["viscosity -1", "viscosity 1\nforce inf 0", "viscosity 1\nx-min velocity 1 0", "viscosity 1\ncollision trt 3"];
     for (line, number) in lines.into_iter().zip([3, 4, 5, 3]) {
-        let path = study("no-steps", &format!("sides 2 2\nsteps 0\n{line}\n"));
-        let (status, said) = failed(&format!("run {path}"));
+        let made = study("no-steps", &format!("sides 2 2\nsteps 0\n{line}\n"));
+        let (status, said) = failed(&format!("run {made}"));
         assert_eq!(status, Some(1), "{line}");
         assert!(said.starts_with(&format!("brothwagon: refused with number {number}: ")), "{line}: {said}");
     }
