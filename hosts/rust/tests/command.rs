@@ -1,7 +1,8 @@
 //! The command, from outside: what it prints and how it ends.
 
 use std::fs;
-use std::process::{Command, Output, Stdio};
+use std::io;
+use std::process::{Command, Output};
 
 /// A path, with STUDIES for the folder of the studies and MADE for that of the files which a test makes.
 fn path(word: &str) -> String {
@@ -105,10 +106,9 @@ fn a_wrong_file_or_command_is_told_apart_from_a_refusal() {
 
 #[test]
 fn a_reader_that_has_seen_enough_ends_it_quietly() {
-    let mut command = Command::new(env!("CARGO_BIN_EXE_brothwagon"));
-    let mut child = command.arg("--help").stdout(Stdio::piped()).stderr(Stdio::piped()).spawn().unwrap();
-    drop(child.stdout.take());
-    let end = child.wait_with_output().unwrap();
+    let (reader, writer) = io::pipe().unwrap();
+    drop(reader);
+    let end = Command::new(env!("CARGO_BIN_EXE_brothwagon")).arg("--help").stdout(writer).output().unwrap();
     assert!(end.status.success());
     assert_eq!(String::from_utf8_lossy(&end.stderr), "");
 }
