@@ -44,12 +44,14 @@ impl Made {
         self.0
     }
 
-    /// Mode 0: from 0.5 to 1; mode 1: any pattern; mode 2: one in four special, the rest from 0.5 to 1.
+    /// Mode 0: from 0.5 to 1; mode 1: any pattern; mode 2: one in four special, the rest from 0.5 to 1; mode 3: from 1/16 to
+    /// 1/8, so that nine are near the density 1.
     fn pattern(&mut self, mode: u64) -> u64 {
         let x = self.next();
         match mode {
             1 => x,
             2 if x % 4 == 0 => SPECIAL[(x >> 8) as usize % 16],
+            3 => 0x3fb0_0000_0000_0000 | (x >> 12),
             _ => 0x3fe0_0000_0000_0000 | (x >> 12),
         }
     }
@@ -76,9 +78,27 @@ impl Made {
     }
 }
 
+/// A collision of the kind 0 to 2.
+fn collision(kind: u64, rate: f64) -> CollisionModel {
+    match kind {
+        0 => CollisionModel::Bgk,
+        1 => CollisionModel::Trt { magic: rate },
+        _ => CollisionModel::Mrt,
+    }
+}
+
+/// The force where its bits want it: 1 in x, 2 in y.
+fn wanted(force: u64, fx: f64, fy: f64) -> [f64; 2] {
+    [if force & 1 == 1 { fx } else { 0.0 }, if force & 2 == 2 { fy } else { 0.0 }]
+}
+
 /// The pattern of a number that arithmetic made: any NaN is listed as the one NaN.
 fn pattern(x: f64) -> u64 {
     if x.is_nan() { 0x7ff8_0000_0000_0000 } else { x.to_bits() }
+}
+
+fn bits(numbers: &[f64]) -> Vec<u64> {
+    numbers.iter().map(|x| x.to_bits()).collect()
 }
 
 fn patterns(numbers: &[f64]) -> Vec<u64> {
@@ -105,12 +125,8 @@ fn cells(made: &mut Made) {
                     let (tau, rate) = (made.number(mode), made.number(mode));
                     let (fx, fy) = (made.number(mode), made.number(mode));
                     let mut lbm = LatticeBoltzmann2D::new(1, 1, 0.0)
-                        .with_collision(match kind {
-                            0 => CollisionModel::Bgk,
-                            1 => CollisionModel::Trt { magic: rate },
-                            _ => CollisionModel::Mrt,
-                        })
-                        .with_force([if force & 1 == 1 { fx } else { 0.0 }, if force & 2 == 2 { fy } else { 0.0 }]);
+                        .with_collision(collision(kind, rate))
+                        .with_force(wanted(force, fx, fy));
                     lbm.tau = tau;
                     lbm.f = f;
                     lbm.collide_only();
@@ -148,8 +164,9 @@ fn readings(made: &mut Made) {
     }
 }
 
-fn boundaries(made: &mut Made, kinds: [u64; 4]) -> Boundaries<2> {
-    let [a, b, c, d] = kinds.map(|k| made.face(k));
+/// The kinds k and l at x min and y min, and those `shift` further on at x max and y max.
+fn boundaries(made: &mut Made, k: u64, l: u64, shift: u64) -> Boundaries<2> {
+    let [a, b, c, d] = [k, (k + shift) % 6, l, (l + shift) % 6].map(|kind| made.face(kind));
     Boundaries::periodic().set(0, Side::Min, a).set(0, Side::Max, b).set(1, Side::Min, c).set(1, Side::Max, d)
 }
 
@@ -178,7 +195,7 @@ fn streaming(made: &mut Made) {
         for pair in 0..36 {
             for mode in 0..3 {
                 let (k, l) = (pair % 6, pair / 6);
-                let faces = boundaries(made, [k, (k + mode) % 6, l, (l + mode) % 6]);
+                let faces = boundaries(made, k, l, mode);
                 let mut lbm = LatticeBoltzmann2D::new(nx, ny, 0.1).with_boundaries(faces);
                 *lbm.post() = made.numbers(mode, 9 * nx * ny);
                 lbm.stream_only();
@@ -197,9 +214,137 @@ fn streaming(made: &mut Made) {
     }
 }
 
+/// A made-up study: settings and buffers, from which a solver can be made again and again.
+struct Study {
+    nx: usize,
+    ny: usize,
+    nu: f64,
+    collision: CollisionModel,
+    force: [f64; 2],
+    faces: Boundaries<2>,
+    f: Vec<f64>,
+    post: Vec<f64>,
+}
+
+impl Study {
+    /// Study q of 108: each pair of kinds at x min and y min with each kind of collision. The rest is drawn.
+    fn drawn(made: &mut Made, nx: usize, ny: usize, q: u64) -> Study {
+        let c = made.next();
+        let (shift, force, mode) = (c % 6, (c >> 8) % 4, (c >> 16) % 4);
+        let (nu, rate) = (made.number(0) / 10.0, made.number(0));
+        let (fx, fy) = (made.number(0) / 100.0, made.number(0) / 100.0);
+        Study {
+            nx,
+            ny,
+            nu,
+            collision: collision(q % 3, rate),
+            force: wanted(force, fx, fy),
+            faces: boundaries(made, q / 3 % 6, q / 18, shift),
+            f: made.numbers(mode, 9 * nx * ny),
+            post: made.numbers(mode, 9 * nx * ny),
+        }
+    }
+
+    fn solver(&self) -> LatticeBoltzmann2D {
+        let mut lbm = LatticeBoltzmann2D::new(self.nx, self.ny, self.nu)
+            .with_collision(self.collision)
+            .with_force(self.force)
+            .with_boundaries(self.faces);
+        lbm.f = self.f.clone();
+        *lbm.post() = self.post.clone();
+        lbm
+    }
+}
+
+/// A buffer after so many steps: with all its bits if there was none, and else the collision made every entry.
+fn after(steps: usize, buffer: &[f64]) -> u64 {
+    mixed(&if steps == 0 { bits(buffer) } else { patterns(buffer) })
+}
+
+/// Runs of 0, 1, 2 and 7 steps, and single steps. No wall's density is a sum of -0.0 alone here, where `sum` differs.
+fn runs(made: &mut Made) {
+    for (nx, ny) in [(1, 1), (2, 1), (4, 4), (3, 5), (5, 2)] {
+        for q in 0..108 {
+            let study = Study::drawn(made, nx, ny, q);
+            let mut lbm = study.solver();
+            let steps = match made.next() % 5 {
+                4 => {
+                    lbm.step();
+                    1
+                }
+                n => {
+                    let steps = [0, 1, 2, 7][n as usize];
+                    lbm.run(steps);
+                    steps
+                }
+            };
+            line(&[after(steps, &lbm.f), after(steps, lbm.post())]);
+        }
+    }
+}
+
+/// A steady run: number, settled, steps, residual, then the populations, the post-collision buffer and the velocity buffer.
+/// The Rust's `max` drops NaN. So the steps are taken again, and at the first snapshot that is not finite the rules decide.
+fn steady(study: &Study, u: &[f64], tolerance: f64, most: usize, every: usize) {
+    let mut lbm = study.solver();
+    let (steps, residual) = lbm.run_to_steady_state(tolerance, most, every);
+    let mut again = study.solver();
+    let mut last = bits(u);
+    for k in 0..=steps {
+        if k > 0 {
+            again.step();
+        }
+        if k % every.max(1) == 0 {
+            let now: Vec<f64> = again.velocity_field().into_iter().flatten().collect();
+            if !now.iter().all(|x| x.is_finite()) {
+                return line(&[9, 0, k as u64, 0, after(k, &again.f), after(k, again.post()), mixed(&last)]);
+            }
+            last = bits(&now);
+        }
+    }
+    let settled = (residual < tolerance) as u64;
+    line(&[0, settled, steps as u64, residual.to_bits(), after(steps, &lbm.f), after(steps, lbm.post()), mixed(&last)]);
+}
+
+/// Steady runs of made-up studies, with a tolerance, most steps and steps between checks that are drawn.
+fn steadies(made: &mut Made) {
+    for (nx, ny) in [(1, 1), (2, 3), (4, 4)] {
+        for q in 0..108 {
+            let study = Study::drawn(made, nx, ny, q);
+            let c = made.next();
+            let tolerance = [f64::INFINITY, -1.0, 0.0, 0.1, 0.01, 0.001][c as usize % 6];
+            let most = (c >> 8) as usize % 8 * 20;
+            let every = [0, 1, 3, 50][(c >> 16) as usize % 4];
+            let u = made.numbers(1, 2 * nx * ny);
+            steady(&study, &u, tolerance, most, every);
+        }
+    }
+}
+
+/// The two runs of docs/DIFFERENCES.md that the Rust calls settled: one cell, all populations 0.0 but that at rest.
+fn ruined() {
+    for at_rest in [0x7ff8_0000_0000_0000, 0xfff0_0000_0000_0000] {
+        let study = Study {
+            nx: 1,
+            ny: 1,
+            nu: 0.1,
+            collision: CollisionModel::Bgk,
+            force: [0.0, 0.0],
+            faces: Boundaries::periodic(),
+            f: vec![f64::from_bits(at_rest), 0.0, 0.0, 0.0, 0.0, 0.0, 0.0, 0.0, 0.0],
+            post: vec![0.0; 9],
+        };
+        assert_eq!(study.solver().run_to_steady_state(1e-9, 10, 1), (1, 0.0));
+        steady(&study, &[0.0, 0.0], 1e-9, 10, 1);
+    }
+}
+
 fn main() {
     let mut made = Made(88172645463325252);
     cells(&mut made);
     readings(&mut made);
     streaming(&mut made);
+    runs(&mut made);
+    steadies(&mut made);
+    ruined();
 }

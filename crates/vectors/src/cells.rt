@@ -1,22 +1,7 @@
 // One cell's collision: each kind, without force, with a force in x, in y and in both, in each mode.
 use crate::made;
 use crate::show;
-use cell::Collision;
-
-fn kind(k: u64, rate: f64) -> Collision {
-    if k == 0 {
-        return Collision::Bgk;
-    }
-    if k == 1 {
-        return Collision::Trt(rate);
-    }
-    Collision::Mrt
-}
-
-// The number where it is wanted, and else 0.0.
-fn wanted(on: bool, x: f64) -> f64 {
-    if on { x } else { 0.0 }
-}
+use crate::studies;
 
 // Case k, from the number x on; answers the number after it.
 pub fn one(k: u64, x: u64) -> u64 {
@@ -30,8 +15,9 @@ pub fn one(k: u64, x: u64) -> u64 {
     let x4 = made::shifted(x3);
     let tau = made::number(mode, x1);
     let rate = made::number(mode, x2);
-    let fx = wanted(force % 2 == 1, made::number(mode, x3));
-    let fy = wanted(2 <= force, made::number(mode, x4));
-    show::nine(cell::collide(kind(k / 36, rate), f, tau, fx, fy));
+    let fx = studies::wanted(force % 2 == 1, made::number(mode, x3));
+    let fy = studies::wanted(2 <= force, made::number(mode, x4));
+    let collision = studies::collision(k / 36, rate);
+    show::nine(cell::collide(collision, f, tau, fx, fy));
     x4
 }

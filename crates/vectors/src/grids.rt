@@ -1,24 +1,9 @@
 // The readings of a grid: each cell's density and velocity, the velocity field, mass and energy; and the initial populations.
 use crate::made;
 use crate::show;
+use crate::studies;
 use cell::Collision;
-use settings::Face;
 use settings::Settings;
-
-fn settings_of(nx: usize, ny: usize, fx: f64, fy: f64) -> Settings {
-    Settings {
-        nx,
-        ny,
-        nu: 0.1,
-        fx,
-        fy,
-        collision: Collision::Bgk,
-        x_min: Face::Periodic,
-        x_max: Face::Periodic,
-        y_min: Face::Periodic,
-        y_max: Face::Periodic,
-    }
-}
 
 fn show_cell(s: Settings, f: &[u64], x: usize, y: usize) {
     let rho = readings::density(s, f, x, y);
@@ -70,7 +55,9 @@ fn one(
 ) -> u64 {
     let x1 = made::shifted(x);
     let x2 = made::shifted(x1);
-    let s = settings_of(nx, ny, made::number(0, x1), made::number(0, x2));
+    let fx = made::number(0, x1);
+    let fy = made::number(0, x2);
+    let s = studies::periodic(nx, ny, 0.1, fx, fy, Collision::Bgk);
     let x3 = made::fill(f, mode, x2);
     show_cells(s, f);
     show_sums(s, f, u);

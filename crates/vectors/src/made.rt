@@ -26,13 +26,17 @@ const SPECIAL: [u64; 16] = [
     0xbfe5_5555_5555_5555,
 ];
 
-// Mode 0: from 0.5 to 1; mode 1: any pattern; mode 2: one in four special, the rest from 0.5 to 1.
+// Mode 0: from 0.5 to 1; mode 1: any pattern; mode 2: one in four special, the rest from 0.5 to 1; mode 3: from 1/16 to 1/8,
+// so that nine are near the density 1.
 pub fn pattern(mode: u64, x: u64) -> u64 {
     if mode == 1 {
         return x;
     }
     if (mode == 2) & (x % 4 == 0) {
         return SPECIAL[((x >> 8) % 16) as usize];
+    }
+    if mode == 3 {
+        return 0x3fb0_0000_0000_0000 | (x >> 12);
     }
     0x3fe0_0000_0000_0000 | (x >> 12)
 }
