@@ -137,6 +137,11 @@ fn cells(made: &mut Made) {
     }
 }
 
+/// The velocity of every cell, both components of a cell beside each other.
+fn field(lbm: &LatticeBoltzmann2D) -> Vec<f64> {
+    lbm.velocity_field().into_iter().flatten().collect()
+}
+
 /// The readings of a grid: each cell's density and velocity, the velocity field, mass and energy; and the initial populations.
 fn readings(made: &mut Made) {
     for (nx, ny) in [(1, 1), (3, 2), (2, 5)] {
@@ -149,8 +154,7 @@ fn readings(made: &mut Made) {
                     line(&patterns(&[lbm.density(x, y), u[0], u[1]]));
                 }
             }
-            let field: Vec<f64> = lbm.velocity_field().into_iter().flatten().collect();
-            line(&[mixed(&patterns(&field))]);
+            line(&[mixed(&patterns(&field(&lbm)))]);
             line(&patterns(&[lbm.total_mass(), lbm.kinetic_energy()]));
             let table = made.numbers(mode, 3 * nx * ny);
             lbm.initialize_with(|x, y| {
@@ -194,8 +198,7 @@ fn streaming(made: &mut Made) {
     for (nx, ny) in [(1, 1), (2, 1), (1, 3), (2, 2), (3, 5), (5, 2)] {
         for pair in 0..36 {
             for mode in 0..3 {
-                let (k, l) = (pair % 6, pair / 6);
-                let faces = boundaries(made, k, l, mode);
+                let faces = boundaries(made, pair % 6, pair / 6, mode);
                 let mut lbm = LatticeBoltzmann2D::new(nx, ny, 0.1).with_boundaries(faces);
                 *lbm.post() = made.numbers(mode, 9 * nx * ny);
                 lbm.stream_only();
@@ -214,7 +217,7 @@ fn streaming(made: &mut Made) {
     }
 }
 
-/// A made-up study: settings and buffers, from which a solver can be made again and again.
+/// A made-up study: settings and buffers, from which the same solver can be made twice.
 struct Study {
     nx: usize,
     ny: usize,
@@ -256,35 +259,32 @@ impl Study {
     }
 }
 
-/// A buffer after so many steps: with all its bits if there was none, and else the collision made every entry.
+/// A buffer after so many steps: with all its bits if there was none, since else arithmetic made every entry.
 fn after(steps: usize, buffer: &[f64]) -> u64 {
     mixed(&if steps == 0 { bits(buffer) } else { patterns(buffer) })
 }
 
-/// Runs of 0, 1, 2 and 7 steps, and single steps. No wall's density is a sum of -0.0 alone here, where `sum` differs.
+/// Runs of 0, 1, 2 and 7 steps, and single steps: the number, then the populations and the post-collision buffer.
+/// A wall's density over -0.0 alone, which Rust's `sum` gives another sign, comes up nowhere here.
 fn runs(made: &mut Made) {
     for (nx, ny) in [(1, 1), (2, 1), (4, 4), (3, 5), (5, 2)] {
         for q in 0..108 {
             let study = Study::drawn(made, nx, ny, q);
             let mut lbm = study.solver();
-            let steps = match made.next() % 5 {
-                4 => {
-                    lbm.step();
-                    1
-                }
-                n => {
-                    let steps = [0, 1, 2, 7][n as usize];
-                    lbm.run(steps);
-                    steps
-                }
-            };
-            line(&[after(steps, &lbm.f), after(steps, lbm.post())]);
+            let choice = made.next() as usize % 5;
+            let steps = [0, 1, 2, 7, 1][choice];
+            if choice == 4 {
+                lbm.step();
+            } else {
+                lbm.run(steps);
+            }
+            line(&[0, after(steps, &lbm.f), after(steps, lbm.post())]);
         }
     }
 }
 
-/// A steady run: number, settled, steps, residual, then the populations, the post-collision buffer and the velocity buffer.
-/// The Rust's `max` drops NaN. So the steps are taken again, and at the first snapshot that is not finite the rules decide.
+/// A steady run: number, settled, steps, residual; then the populations, the post-collision and the velocity buffer.
+/// The Rust's answer, unless one of its snapshots is not finite: its `max` drops NaN, so its steps are taken again to look.
 fn steady(study: &Study, u: &[f64], tolerance: f64, most: usize, every: usize) {
     let mut lbm = study.solver();
     let (steps, residual) = lbm.run_to_steady_state(tolerance, most, every);
@@ -295,7 +295,7 @@ fn steady(study: &Study, u: &[f64], tolerance: f64, most: usize, every: usize) {
             again.step();
         }
         if k % every.max(1) == 0 {
-            let now: Vec<f64> = again.velocity_field().into_iter().flatten().collect();
+            let now = field(&again);
             if !now.iter().all(|x| x.is_finite()) {
                 return line(&[9, 0, k as u64, 0, after(k, &again.f), after(k, again.post()), mixed(&last)]);
             }
@@ -321,7 +321,7 @@ fn steadies(made: &mut Made) {
     }
 }
 
-/// The two runs of docs/DIFFERENCES.md that the Rust calls settled: one cell, all populations 0.0 but that at rest.
+/// The two steady runs of docs/DIFFERENCES.md, which the Rust calls settled: one cell, all populations 0.0 but that at rest.
 fn ruined() {
     for at_rest in [0x7ff8_0000_0000_0000, 0xfff0_0000_0000_0000] {
         let study = Study {

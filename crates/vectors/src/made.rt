@@ -6,6 +6,15 @@ pub fn shifted(x: u64) -> u64 {
     b ^ (b << 17)
 }
 
+// The number n after x.
+pub fn past(n: u64, x: u64) -> u64 {
+    let mut x = x;
+    for k in 0..n {
+        x = shifted(x);
+    }
+    x
+}
+
 // NaNs with payloads, infinities, zeros, subnormals, huge and tiny numbers, and some plain ones.
 const SPECIAL: [u64; 16] = [
     0x7ff8_0000_0000_0000,

@@ -7,24 +7,21 @@ use settings::Settings;
 const STEPS: [u64; 4] = [0, 1, 2, 7];
 
 // Choice 4 is the single step.
-fn go(s: Settings, choice: u64, f: &mut [u64], post: &mut [u64]) {
+fn go(s: Settings, choice: u64, f: &mut [u64], post: &mut [u64]) -> u32 {
     if choice < 4 {
-        runs::run(s, STEPS[choice as usize], f, post);
+        runs::run(s, STEPS[choice as usize], f, post)
     } else {
-        runs::step(s, f, post);
+        runs::step(s, f, post)
     }
 }
 
 // Study q, from the number x on; answers the number after it.
 fn one(nx: usize, ny: usize, q: u64, x: u64, f: &mut [u64], post: &mut [u64]) -> u64 {
-    let study = studies::drawn(nx, ny, q, x);
-    let s = study.s;
-    let x1 = made::fill(f, study.mode, study.x);
-    let x2 = made::fill(post, study.mode, x1);
-    let x3 = made::shifted(x2);
-    go(s, x3 % 5, f, post);
-    show::words(&[show::mixed(f), show::mixed(post)]);
-    x3
+    let s = studies::drawn(nx, ny, q, x);
+    let c = made::shifted(studies::fill(x, f, post));
+    let number = go(s, c % 5, f, post);
+    show::words(&[number as u64, show::mixed(f), show::mixed(post)]);
+    c
 }
 
 pub fn all(nx: usize, ny: usize, x: u64, f: &mut [u64], post: &mut [u64]) -> u64 {
