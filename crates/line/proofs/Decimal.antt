@@ -11,7 +11,7 @@ use lib.ListN.{length, getD, length-append, List·getD-append}
 use borrow.Author.Tests.{lt-ltb, le-ltb}
 use Rattle.io.specs.Digits.{glyph, digits, Fewest}
 use Rattle.line.specs.Text.{digit, decimalIn, decimal}
-use Rattle.line.specs.Line.{mostDigits, numberAfter, numberOf}
+use Rattle.line.specs.Line.{mostDigits, numberAfter, decimalOf}
 
 -- k digits hold what has k digits
 below-power : (k : ℕ) → k < 10 ^ k
@@ -75,12 +75,12 @@ unfolding numberAfter
 number-last [] n d = refl
 number-last (b ∷ rest) n d = number-last rest (n * 10 + (b - 48)) d
 
-back : (most n : ℕ) → n < most → numberOf (decimalIn most n) ≡ n
+back : (most n : ℕ) → n < most → decimalOf (decimalIn most n) ≡ n
 unfolding decimalIn numberAfter
 back zero n h = absurd (omega arith)
 back (suc most) n h = go (decLe 10 n) (back most (n / 10))
   where
-    go : Dec (10 ≤ n) → (n / 10 < most → numberOf (decimalIn most (n / 10)) ≡ n / 10) → numberOf (decimalIn (suc most) n) ≡ n
+    go : Dec (10 ≤ n) → (n / 10 < most → decimalOf (decimalIn most (n / 10)) ≡ n / 10) → decimalOf (decimalIn (suc most) n) ≡ n
     go (yes l) more = rw (le-ltb n 10 l, number-last, more (omega arith)) (omega arith)
     go (no few) more = rw (lt-ltb n 10 (omega arith)) (omega arith)
 
@@ -98,7 +98,7 @@ front (suc most) n h = go (decLe 10 n) (front most (n / 10))
         rw (le-ltb n 10 l) (omega (arith, length-append ds last), λ _. rw (List·getD-append ds last 0 0 (m .0)) (m .1 (omega arith)))
     go (no few) more = rw (lt-ltb n 10 (omega arith)) (omega arith, λ some. omega arith)
 
-pub reads-back : (n : ℕ) → numberOf (decimal n) ≡ n
+pub reads-back : (n : ℕ) → decimalOf (decimal n) ≡ n
 reads-back n = back (suc n) n (omega arith)
 
 -- only 0 begins with a zero

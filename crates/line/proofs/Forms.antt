@@ -12,7 +12,7 @@ use borrow.Author.Tests.{eqb-true, le-leb, not-true}
 use Rattle.lossless.specs.declared.Answer.{Answer}
 use Rattle.lossless.specs.declared.Answer.the-variants.{Refused, Lossless, Lossy}
 use Rattle.lossless.specs.Lossless.{losslessOf}
-use Rattle.line.specs.Line.{space, before, after, isLetter, areLetters, isDigit, areDigits, areSides, mostBytes, readable, numberOf, study, asked, worded, unreadable, answerTo, Form}
+use Rattle.line.specs.Line.{space, before, after, isLetter, areLetters, isDigit, areDigits, areSides, mostBytes, readable, decimalOf, study, asked, worded, unreadable, answerTo, Form}
 use Rattle.line.proofs.Words.{before-short}
 use Rattle.line.proofs.Sides.{both, side-told}
 use Rattle.line.proofs.Parts.{told, both-sides, letters-told}
@@ -86,12 +86,12 @@ module _ (line : List ℕ) (a b c d : ℕ) (xs ys : List ℕ) (f : Form line a b
   unfolding readable areLetters areSides
   is-readable = rw (le-leb (length line) mostBytes few, letters, f .letters, first, second, f .x-side, f .y-side)
 
-  is-asked : asked line ≡ study a b c d (numberOf xs) (numberOf ys)
+  is-asked : asked line ≡ study a b c d (decimalOf xs) (decimalOf ys)
   unfolding asked
   is-asked = rw (first, second, f .parts)
 
   -- ITS ANSWER is that to the question
-  pub answered : answerTo line ≡ worded (losslessOf (study a b c d (numberOf xs) (numberOf ys)))
+  pub answered : answerTo line ≡ worded (losslessOf (study a b c d (decimalOf xs) (decimalOf ys)))
   unfolding answerTo
   answered = rw (is-readable, is-asked)
 

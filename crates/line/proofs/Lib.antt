@@ -8,4 +8,3 @@ pub mod Puts
 pub mod Sizes
 pub mod Handed
 pub mod One
-pub mod Examples

@@ -20,14 +20,14 @@ use Rattle.lossless.specs.declared.Answer.{Answer}
 use Rattle.lossless.specs.declared.Answer.the-variants as The
 use Rattle.lossless.specs.Lossless.{lowest, lossyAt, losslessOf}
 use Rattle.line.specs.Text.{bytes, decimalIn}
-use Rattle.line.specs.Line.{mostBytes, readable, faceOf, numberOf, study, worded, answerTo, Form}
+use Rattle.line.specs.Line.{mostBytes, readable, faceOfLetter, decimalOf, study, worded, answerTo, Form}
 use Rattle.line.proofs.Forms.{answered, not-readable}
 
 -- ---- the faces of a line
 
 -- what none of the three kinds is, no face of a line is
-three-kinds : (p : Face → Bool) → p Periodic ≡ false → p NoSlip ≡ false → p Symmetry ≡ false → (l : ℕ) → p (faceOf l) ≡ false
-unfolding faceOf
+three-kinds : (p : Face → Bool) → p Periodic ≡ false → p NoSlip ≡ false → p Symmetry ≡ false → (l : ℕ) → p (faceOfLetter l) ≡ false
+unfolding faceOfLetter
 three-kinds p x y z l = go (eqb l 80) (eqb l 78)
   where
     go : (t u : Bool) → p (cond t Periodic (cond u NoSlip Symmetry)) ≡ false
@@ -35,7 +35,7 @@ three-kinds p x y z l = go (eqb l 80) (eqb l 78)
     go false true = y
     go false false = z
 
-no-bad-face : (n0 n1 : Float) (l : ℕ) → faceBad (faceOf l) n0 n1 ≡ false
+no-bad-face : (n0 n1 : Float) (l : ℕ) → faceBad (faceOfLetter l) n0 n1 ≡ false
 unfolding faceBad
 no-bad-face n0 n1 = three-kinds (λ f. faceBad f n0 n1) refl refl refl
 
@@ -62,13 +62,13 @@ module _ (a b c d nx ny : ℕ) where
 
 module _ (line : List ℕ) (a b c d : ℕ) (xs ys : List ℕ) (f : Form line a b c d xs ys) where
   -- `refused 1` exactly where number 1 applies, else `lossless` or `lossy`
-  pub written : let s = study a b c d (numberOf xs) (numberOf ys) in
+  pub written : let s = study a b c d (decimalOf xs) (decimalOf ys) in
       answerTo line
       ≡ cond (sidesBad (s .nx) (s .ny)) (bytes "refused 1\n") (cond (lossy s) (worded (lossyAt (lowest s))) (bytes "lossless\n"))
   unfolding worded decimalIn
   written =
-      let s = study a b c d (numberOf xs) (numberOf ys) in
-      answered line a b c d xs ys f ∙ rw (question a b c d (numberOf xs) (numberOf ys)) (go s (sidesBad (s .nx) (s .ny)) (lossy s))
+      let s = study a b c d (decimalOf xs) (decimalOf ys) in
+      answered line a b c d xs ys f ∙ rw (question a b c d (decimalOf xs) (decimalOf ys)) (go s (sidesBad (s .nx) (s .ny)) (lossy s))
     where
       go : (s : Settings) (t u : Bool)
           → worded (cond t (The.Refused 1) (cond u (lossyAt (lowest s)) The.Lossless))

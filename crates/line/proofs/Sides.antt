@@ -11,7 +11,7 @@ use lib.Dec.{leb}
 use lib.ListN.{length, getD, drop, drop-of-length-le}
 use lib.Seq.{drop-cons}
 use borrow.Author.Tests.{leb-true}
-use Rattle.line.specs.Line.{isDigit, areDigits, mostDigits, isSide, numberAfter, numberOf}
+use Rattle.line.specs.Line.{isDigit, areDigits, mostDigits, isSide, numberAfter, decimalOf}
 
 -- both sides of a test that holds
 pub both : (a b : Bool) → a && b ≡ true → (a ≡ true) × (b ≡ true)
@@ -62,7 +62,7 @@ digits-all s k p h = p .same ∙ rw (drop-of-length-le s h)
 pub record Said (s : List ℕ) (n k : ℕ) : Type 0 where
   pub few : length s ≤ mostDigits
   pub inside : k ≤ length s
-  pub same : numberOf s ≡ numberAfter n (drop k s)
+  pub same : decimalOf s ≡ numberAfter n (drop k s)
   pub small : n < 10 ^ k
   pub digits : areDigits (drop k s) ≡ true
 
@@ -96,7 +96,7 @@ module _ (s : List ℕ) (n k : ℕ) (p : Said s n k) where
     digits = next h .1;
   }
 
-  pub said-all : length s ≤ k → n ≡ numberOf s
+  pub said-all : length s ≤ k → n ≡ decimalOf s
   unfolding numberAfter
   said-all h = sym (p .same ∙ rw (drop-of-length-le s h))
 
@@ -108,7 +108,7 @@ side-said s e (suc k) h =
     let p = side-said s e k (omega arith) in
     (p .0 * 10 + (getD s k 0 - 48), rw add-one at (said-more s (p .0) k (p .1) (omega arith)))
 
-pub side-small : (s : List ℕ) → isSide s ≡ true → numberOf s < 10 ^ mostDigits
+pub side-small : (s : List ℕ) → isSide s ≡ true → decimalOf s < 10 ^ mostDigits
 side-small s e =
     let p = side-said s e (length s) (le-refl (length s)) in
     rw (← said-all s (p .0) (length s) (p .1) (le-refl (length s))) (said-small s (p .0) (length s) (p .1))

@@ -66,16 +66,17 @@ readable line = leb (length line) mostBytes && areLetters (before line) && areSi
 -- ---- what it asks
 
 -- P, N and S are Periodic, NoSlip and Symmetry
-unfoldable pub faceOf : ℕ → Face
-faceOf letter = cond (eqb letter (code "P")) Periodic (cond (eqb letter (code "N")) NoSlip Symmetry)
+unfoldable pub faceOfLetter : ℕ → Face
+faceOfLetter letter = cond (eqb letter (code "P")) Periodic (cond (eqb letter (code "N")) NoSlip Symmetry)
 
 -- the number that the digits bs say after those that say n
 unfoldable pub numberAfter : ℕ → List ℕ → ℕ
 numberAfter n [] = n
 numberAfter n (b ∷ rest) = numberAfter (n * 10 + (b - code "0")) rest
 
-abbrev pub numberOf : List ℕ → ℕ
-numberOf bs = numberAfter 0 bs
+-- the number that digits say: `decimal` is the way back
+abbrev pub decimalOf : List ℕ → ℕ
+decimalOf bs = numberAfter 0 bs
 
 -- x min, x max, y min, y max, then the sides. The question does not look at viscosity, force and collision
 abbrev pub study : ℕ → ℕ → ℕ → ℕ → ℕ → ℕ → Settings
@@ -86,16 +87,16 @@ study a b c d nx ny = record {
   fx = c0;
   fy = c0;
   collision = Bgk;
-  «x_min» = faceOf a;
-  «x_max» = faceOf b;
-  «y_min» = faceOf c;
-  «y_max» = faceOf d;
+  «x_min» = faceOfLetter a;
+  «x_max» = faceOfLetter b;
+  «y_min» = faceOfLetter c;
+  «y_max» = faceOfLetter d;
 }
 
 unfoldable pub asked : List ℕ → Settings
 asked line =
     study (getD line 0 0) (getD line 1 0) (getD line 2 0) (getD line 3 0)
-    (numberOf (before (after line))) (numberOf (after (after line)))
+    (decimalOf (before (after line))) (decimalOf (after (after line)))
 
 -- ---- what is written for it
 

@@ -6,7 +6,7 @@ ghost use mathlib.Core.Bool.{true};
 ghost use Prim.Native.Nat.{_+_, _≤_};
 ghost use lib.ListN.{length, take, drop};
 ghost use Rattle.line.specs.Line as Line;
-ghost use Rattle.line.specs.Line.{before, after, isLetter, areLetters, isDigit, areDigits, isSide, areSides, faceOf, numberOf, spaced, worded, answerTo};
+ghost use Rattle.line.specs.Line.{before, after, isLetter, areLetters, isDigit, areDigits, isSide, areSides, faceOfLetter, decimalOf, spaced, worded, answerTo};
 ghost use Rattle.line.specs.Text.{made, putAt, textOf};
 ghost use Rattle.lossless.specs.declared.Answer.the-variants.{Refused, Lossy};
 
@@ -111,7 +111,7 @@ fn readable(line: &[u8]) -> bool
 // ---- what a readable line asks
 
 fn face(letter: u8) -> Face
-    ensures { λ r. ⌜ r ≡ faceOf letter ⌝ }
+    ensures { λ r. ⌜ r ≡ faceOfLetter letter ⌝ }
 {
     if letter == b'P' {
         return Face::Periodic;
@@ -130,7 +130,7 @@ fn wide(b: u8) -> usize
 
 fn number(digits: &[u8]) -> usize
     requires { ⌜ isSide (now digits) ≡ true ⌝ }
-    ensures { λ r. ⌜ r ≡ numberOf (now (digits .entry)) ⌝ }
+    ensures { λ r. ⌜ r ≡ decimalOf (now (digits .entry)) ⌝ }
 {
     let mut n: usize = 0;
     let mut k = 0;
@@ -143,7 +143,7 @@ fn number(digits: &[u8]) -> usize
 
 fn first_side(sides: &[u8]) -> usize
     requires { ⌜ areSides (now sides) ≡ true ⌝ }
-    ensures { λ r. ⌜ r ≡ numberOf (before (now (sides .entry))) ⌝ }
+    ensures { λ r. ⌜ r ≡ decimalOf (before (now (sides .entry))) ⌝ }
 {
     let n = word(sides);
     number(&sides[..n])
@@ -151,7 +151,7 @@ fn first_side(sides: &[u8]) -> usize
 
 fn second_side(sides: &[u8]) -> usize
     requires { ⌜ areSides (now sides) ≡ true ⌝ }
-    ensures { λ r. ⌜ r ≡ numberOf (after (now (sides .entry))) ⌝ }
+    ensures { λ r. ⌜ r ≡ decimalOf (after (now (sides .entry))) ⌝ }
 {
     let at = rest(sides);
     number(&sides[at..])

@@ -10,19 +10,30 @@ fn ask(line: &[u8]) {
     io::write_all(1, &text[..count]);
 }
 
-// C1 to C7 of the rules.
-fn marked() {
+fn lossless() {
+    // C1, C2, C3, C5 and C6 of the rules
     ask(b"PPPP 3 2");
     ask(b"NNNN 3 2");
     ask(b"SSPP 3 2");
-    ask(b"SSNN 3 2");
     ask(b"NNSS 3 2");
     ask(b"SSNN 3 1");
-    ask(b"NPPP 3 2");
+    // as C6 with y Symmetry, and a single cell
+    ask(b"SSSS 3 1");
+    ask(b"NNNS 1 1");
+    ask(b"PPPP 1 1");
+    // sides and cell counts at the upper ends of their ranges
+    ask(b"PPPP 4096 1");
+    ask(b"PPPP 1 4096");
+    ask(b"PPPP 4096 256");
+    ask(b"PPPP 256 4096");
+    ask(b"PPPP 1024 1024");
 }
 
-// Every way to lose an entry, alone and together; and the sides that it is named by.
-fn lost() {
+fn lossy() {
+    // C4 and C7 of the rules
+    ask(b"SSNN 3 2");
+    ask(b"NPPP 3 2");
+    // one face of an axis is periodic, on the one axis and on both
     ask(b"SPPP 3 2");
     ask(b"PNPP 3 2");
     ask(b"PSPP 3 2");
@@ -31,43 +42,40 @@ fn lost() {
     ask(b"NPNP 3 2");
     ask(b"PNNP 3 2");
     ask(b"PNPN 3 2");
-    ask(b"NPPN 12 34");
-    ask(b"PPSP 123 4096");
+    // an x face is Symmetry and y is not periodic
     ask(b"SNNN 3 2");
     ask(b"NSNN 3 2");
     ask(b"SSSS 3 2");
-    ask(b"SSSN 4096 256");
     ask(b"SNSS 1 2");
-    ask(b"SSSS 3 1");
+    // sides from one digit to four, and with zeros in front
     ask(b"NPPP 1 1");
     ask(b"PPNP 1 1");
-    ask(b"NNNS 1 1");
-}
-
-// Sides and cell counts at the ends of their ranges.
-fn sides() {
-    ask(b"PPPP 1 1");
-    ask(b"PPPP 0 1");
-    ask(b"PPPP 1 0");
-    ask(b"PPPP 4096 1");
-    ask(b"PPPP 1 4096");
-    ask(b"PPPP 4097 1");
-    ask(b"PPPP 1 4097");
-    ask(b"PPPP 4096 256");
-    ask(b"PPPP 4096 257");
-    ask(b"PPPP 256 4096");
-    ask(b"PPPP 257 4096");
-    ask(b"PPPP 1024 1024");
-    ask(b"PPPP 1025 1024");
-    ask(b"PPPP 99999 99999");
-    ask(b"NPPP 0 0");
+    ask(b"NPPN 12 34");
+    ask(b"PPSP 123 4096");
+    ask(b"SSSN 4096 256");
     ask(b"SSNN 00003 00002");
     ask(b"NPPP 04096 00256");
-    ask(b"PPPP 00000 00001");
+    ask(b"PPNP 00012 00345");
 }
 
-// Lines that are of another form in their letters and spaces.
-fn letters() {
+fn refused() {
+    // a side is outside its range, whatever the faces
+    ask(b"PPPP 0 1");
+    ask(b"PPPP 1 0");
+    ask(b"PPPP 00000 00001");
+    ask(b"PPPP 4097 1");
+    ask(b"PPPP 1 4097");
+    ask(b"PPPP 99999 99999");
+    ask(b"NPPP 0 0");
+    ask(b"PPPN 12 34567");
+    // the cell count is outside its range
+    ask(b"PPPP 4096 257");
+    ask(b"PPPP 257 4096");
+    ask(b"PPPP 1025 1024");
+}
+
+// Another form in the letters and spaces.
+fn unreadable_letters() {
     ask(b"");
     ask(b" ");
     ask(b"SSNN");
@@ -90,8 +98,8 @@ fn letters() {
     ask(b"\rSSNN 3 2");
 }
 
-// Lines that are of another form in their sides, or too long.
-fn digits() {
+// Another form in the sides.
+fn unreadable_sides() {
     ask(b"SSNN 3");
     ask(b"SSNN 3 ");
     ask(b"SSNN  2");
@@ -107,7 +115,12 @@ fn digits() {
     ask(b"SSNN 3 :");
     ask(b"SSNN 000003 2");
     ask(b"SSNN 3 000002");
+    ask(b"SSNN 3 123456");
     ask(b"SSNN 18446744073709551619 2");
+}
+
+// Of 64 bytes and of 65.
+fn unreadable_long() {
     ask(b"SSNN 3 000000000000000000000000000000000000000000000000000000002");
     ask(b"SSNN 3 0000000000000000000000000000000000000000000000000000000002");
     ask(b"SSNN 3 2                                                        ");
@@ -115,9 +128,10 @@ fn digits() {
 }
 
 fn main() {
-    marked();
-    lost();
-    sides();
-    letters();
-    digits();
+    lossless();
+    lossy();
+    refused();
+    unreadable_letters();
+    unreadable_sides();
+    unreadable_long();
 }
