@@ -1,11 +1,11 @@
 -- The arithmetic of one cell, in the order of the Rust: every operation rounded once, zero products kept, sums over i = 0..8 from +0.0.
 -- Assumes nothing.
-use mathlib.Core.Bool.{Bool, cond, _||_}
+use mathlib.Core.Bool.{Bool, cond}
 use mathlib.Core.List.{List, [], _∷_}
 use Prim.Native.Nat.{ℕ}
 use lib.ListN.{getD}
-use lib.Ieee.{Float, lt, ne}
-use Rattle.number.specs.Number.{valueOf, _⊕_, _⊖_, _⊗_, _⊘_, c0, c½, c1, c1½, c1·54, c1·64, c2, c3, c4½, c8, c9, magnitudeOf}
+use lib.Ieee.{Float, lt}
+use Rattle.number.specs.Number.{valueOf, _⊕_, _⊖_, _⊗_, _⊘_, c0, c½, c1, c1½, c1·54, c1·64, c2, c3, c4½, c8, c9, notBothZero, magnitudeOf}
 use Rattle.number.specs.Nine.{at, nine, sumTo}
 use Rattle.lattice.specs.Lattice.{ex, ey, W, OPP, basisFloats, normFloats}
 use Rattle.cell.specs.declared.Moments.{Moments}
@@ -84,7 +84,7 @@ guoSources m fx fy = nine (λ i. guoAt i m fx fy)
 
 -- a force component differs from 0
 unfoldable pub forcedBy : Float → Float → Bool
-forcedBy fx fy = ne fx c0 || ne fy c0
+forcedBy fx fy = notBothZero fx fy
 
 unfoldable pub noSource : List Float
 noSource = nine (λ i. c0)

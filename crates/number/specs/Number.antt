@@ -1,8 +1,8 @@
 -- Numbers of 64 bits: the f64 operations, each rounded once to nearest even, and the patterns that stand for numbers in a lent buffer.
 -- Assumes nothing.
-use mathlib.Core.Bool.{Bool, true, false, cond}
+use mathlib.Core.Bool.{Bool, true, false, cond, _||_}
 use Prim.Native.Nat.{ℕ}
-use lib.Ieee.{Float, nan, inf, fin, binary64, ofBits, toBits, isNan, add, sub, mul, div, lt}
+use lib.Ieee.{Float, nan, inf, fin, binary64, ofBits, toBits, isNan, add, sub, mul, div, lt, ne}
 
 infixl 75 _⊕_ _⊖_
 infixl 76 _⊗_ _⊘_
@@ -79,6 +79,10 @@ unfoldable pub notFinite : Float → Bool
 notFinite nan = true
 notFinite (inf s) = true
 notFinite (fin s m e) = false
+
+-- of two components, one differs from 0
+abbrev pub notBothZero : Float → Float → Bool
+notBothZero a b = ne a c0 || ne b c0
 
 -- the sign cleared; a NaN stays a NaN
 unfoldable pub magnitudeOf : Float → Float

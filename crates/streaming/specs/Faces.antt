@@ -5,13 +5,13 @@ use mathlib.Core.List.{List}
 use Prim.Native.Nat.{ℕ, _+_}
 use lib.Dec.{eqb}
 use lib.IntN.{ℤ, pos, negsuc, negℤ, _+ℤ_, _-ℤ_}
-use lib.Ieee.{Float, binary64, ofInt, ne}
-use Rattle.number.specs.Number.{valueOf, patternOf, c0, c½, c1, c2, c3, c6, _⊕_, _⊖_, _⊗_, _⊘_}
+use lib.Ieee.{Float, binary64, ofInt}
+use Rattle.number.specs.Number.{valueOf, patternOf, notBothZero, c0, c½, c1, c2, c3, c6, _⊕_, _⊖_, _⊗_, _⊘_}
 use Rattle.number.specs.Nine.{at, nine}
-use Rattle.lattice.specs.Lattice.{Axis, X, Y, ex, ey, W, OPP}
+use Rattle.lattice.specs.Lattice.{Axis, X, Y, W, OPP}
 use Rattle.lattice.specs.Lookup.{dirIndexOf, mirror}
 use Rattle.grid.specs.Grid.{Field}
-use Rattle.cell.specs.Cell.{densityOf}
+use Rattle.cell.specs.Cell.{alongAt, densityOf}
 use Rattle.settings.specs.declared.Face.{Face}
 use Rattle.settings.specs.declared.Face.the-variants.{Periodic, NoSlip, MovingWall, Symmetry, Velocity, Pressure}
 use Rattle.streaming.specs.Steps.{Step, stay, up, down, part}
@@ -58,13 +58,13 @@ cellAt p x y = nine (λ i. valueOf (p x y i))
 
 -- not both speeds equal 0
 abbrev pub moving : Float → Float → Bool
-moving u v = ne u c0 || ne v c0
+moving u v = notBothZero u v
 
 -- the opposite post-collision entry plus 6·W·ρw·(e·u), where ρw sums the cell's post-collision entries
 unfoldable pub pushed : Float → Float → Field → ℕ → ℕ → ℕ → ℕ
 pushed u v post x y i =
     patternOf
-    (valueOf (post x y (OPP i)) ⊕ c6 ⊗ W i ⊗ densityOf (cellAt post x y) ⊗ (ex i ⊗ u ⊕ ey i ⊗ v))
+    (valueOf (post x y (OPP i)) ⊕ c6 ⊗ W i ⊗ densityOf (cellAt post x y) ⊗ alongAt i u v)
 
 unfoldable pub walled : Float → Float → Field → ℕ → ℕ → ℕ → ℕ
 walled u v post x y i = cond (moving u v) (pushed u v post x y i) (post x y (OPP i))

@@ -9,10 +9,11 @@ ghost use Prim.Native.Nat.{_+_, _*_, _%_, _≤_, _<_};
 ghost use lib.ListN.{length, getD, set};
 ghost use lib.Ieee.{binary64, ofInt};
 ghost use Rattle.number.specs.Number.{valueOf, patternOf, c6, _⊕_, _⊗_};
-ghost use Rattle.lattice.specs.Lattice.{ex, ey, W, OPP};
+ghost use Rattle.lattice.specs.Lattice.{W, OPP};
 ghost use Rattle.lattice.specs.Lookup.{axisOf, mirror};
 ghost use Rattle.grid.specs.Grid.{Grid, Holds};
 ghost use Rattle.grid.specs.Writes.{Wrote};
+ghost use Rattle.cell.specs.Cell.{alongAt};
 ghost use Rattle.settings.specs.Outcome.{Written};
 ghost use Rattle.settings.specs.Tests.{drives, driven};
 ghost use Rattle.streaming.specs.Steps as Steps;
@@ -297,7 +298,7 @@ fn reflect(line: Line, n: usize, to: Planes, from: Planes, post: &[u64], f: &mut
 // The opposite entry b as direction i takes it from a wall that moves: 6·W·ρw·(e·u) more.
 fn push(i: usize, b: u64, rho: f64, u: f64, v: f64) -> u64
     requires { ⌜ i < 9 ⌝ }
-    ensures { λ r. ⌜ r ≡ patternOf (valueOf b ⊕ c6 ⊗ W i ⊗ rho ⊗ (ex i ⊗ u ⊕ ey i ⊗ v)) ⌝ }
+    ensures { λ r. ⌜ r ≡ patternOf (valueOf b ⊕ c6 ⊗ W i ⊗ rho ⊗ alongAt i u v) ⌝ }
 {
     let eu = lattice::e_x(i) * u + lattice::e_y(i) * v;
     number::pattern(number::value(b) + 6.0 * lattice::weight(i) * rho * eu)

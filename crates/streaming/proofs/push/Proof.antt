@@ -1,6 +1,7 @@
 -- `streaming::push` meets its contract: the Rust's operations in its order.
 -- Assumes nothing.
 use borrow.Author.Needs.{needs}
+use Rattle.cell.specs.Cell.{alongAt}
 use Rattle.streaming.proofs.push.Statement.{statement}
 use Rattle.streaming.proofs.push.Tie as tie
 
@@ -20,6 +21,7 @@ pattern-requires : tie.Need-pattern-requires
 pattern-requires c κs = search needs
 
 returns : tie.Need-returns
+unfolding alongAt
 returns c =
     let w = c .before in
     let v = w .before in
