@@ -1,23 +1,24 @@
--- `refusals::kept` is safe and ends.
+-- `refusals::ruined::same` is safe and ends.
 -- Assumes nothing.
 use Prim.Native.Nat.{_≤_, _-_}
-use lib.ListN.{length}
 use borrow.Author.Needs.{needs}
-use Rattle.refusals.proofs.kept.Statement.{statement}
-use Rattle.refusals.proofs.kept.Tie as tie
+use Rattle.refusals.proofs.ruined.same.Statement.{statement}
+use Rattle.refusals.proofs.ruined.same.Tie as tie
 
 abbrev Inv-loop : tie.InvT-loop
-Inv-loop a k₀ k = k ≤ length a
+Inv-loop a b i₀ i = i ≤ 9
 
 abbrev μ-loop : tie.MeasureT-loop
-μ-loop a k₀ k = length a - k
+μ-loop a b i₀ i = 9 - i
 
-pub kept-spec : {M : Type 1} → statement M
-kept-spec =
+pub same-spec : {M : Type 1} → statement M
+same-spec =
     tie.close
     (tie.spec
     Inv-loop
     μ-loop
+    (λ c. search needs)
+    (λ c. search needs)
     (λ c. search needs)
     (λ c. search needs)
     (λ c. search needs)

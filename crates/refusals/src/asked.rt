@@ -1,0 +1,230 @@
+// The questions beside the operations, which take lengths and no buffers: bounds from both sides, and the order of the numbers.
+use crate::given::colliding;
+use crate::given::faced;
+use crate::given::forced;
+use crate::given::infinity;
+use crate::given::nan;
+use crate::given::sized;
+use crate::given::viscous;
+use crate::given::x_max;
+use crate::given::x_min;
+use crate::given::y_max;
+use crate::given::y_min;
+use crate::show;
+use cell::Collision;
+use settings::Face;
+use settings::Settings;
+
+// ---- questions on 3 by 2, each buffer of the right length
+
+fn step(name: &[u8], s: Settings) {
+    show::number(name, settings::step_refusal(s, 54, 54));
+}
+
+fn velocity(name: &[u8], s: Settings) {
+    show::number(name, settings::velocity_refusal(s, 54, 0, 0));
+}
+
+fn density(name: &[u8], s: Settings, x: usize, y: usize) {
+    show::number(name, settings::density_refusal(s, 54, x, y));
+}
+
+fn plane(name: &[u8], i: usize) {
+    show::number(name, settings::plane_refusal(sized(3, 2), 54, i));
+}
+
+fn stream(name: &[u8], s: Settings) {
+    show::number(name, settings::stream_with_faces_refusal(s, 54, 54));
+}
+
+fn lossless(name: &[u8], s: Settings) {
+    show::number(name, settings::lossless_refusal(s));
+}
+
+fn reverse(name: &[u8], s: Settings) {
+    show::number(name, settings::reverse_refusal(s, 54, 54));
+}
+
+fn steady(name: &[u8], tolerance: f64, steps: u64) {
+    let s = sized(3, 2);
+    let number = settings::run_to_steady_state_refusal(s, tolerance, steps, 54, 54, 12);
+    show::number(name, number);
+}
+
+// ---- bounds
+
+fn sides() {
+    lossless(b"sides 0 by 7", sized(0, 7));
+    lossless(b"sides 7 by 0", sized(7, 0));
+    lossless(b"sides 4097 by 1", sized(4097, 1));
+    lossless(b"sides 1 by 4097", sized(1, 4097));
+    lossless(b"sides 4096 by 256", sized(4096, 256));
+    lossless(b"sides 4096 by 257", sized(4096, 257));
+}
+
+fn lengths() {
+    let s = sized(3, 2);
+    show::number(b"lengths 54 and 54", settings::step_refusal(s, 54, 54));
+    show::number(b"lengths 53 and 54", settings::step_refusal(s, 53, 54));
+    show::number(b"lengths 54 and 55", settings::step_refusal(s, 54, 55));
+}
+
+fn viscosities() {
+    step(b"viscosity 0", viscous(0.0));
+    step(b"viscosity -1", viscous(-1.0));
+    step(b"viscosity NaN", viscous(nan()));
+    step(b"viscosity infinite", viscous(infinity()));
+}
+
+fn rates() {
+    step(b"minus rate 0", colliding(Collision::Trt(0.0)));
+    step(b"minus rate 2", colliding(Collision::Trt(2.0)));
+    step(
+        b"minus rate just above 2",
+        colliding(Collision::Trt(2.0000000000000004)),
+    );
+    step(b"minus rate -1", colliding(Collision::Trt(-1.0)));
+    step(b"minus rate NaN", colliding(Collision::Trt(nan())));
+}
+
+fn forces() {
+    velocity(b"velocity: force NaN", forced(nan(), 0.0));
+    velocity(b"velocity: force minus infinity", forced(-infinity(), 0.0));
+    density(b"density: force NaN", forced(nan(), 0.0), 0, 0);
+}
+
+fn speeds() {
+    stream(b"x min Velocity 1, 0", x_min(Face::Velocity(1.0, 0.0)));
+    stream(b"x min Velocity -1, 0", x_min(Face::Velocity(-1.0, 0.0)));
+    stream(b"x max Velocity 1, 0", x_max(Face::Velocity(1.0, 0.0)));
+    stream(b"x max Velocity -1, 0", x_max(Face::Velocity(-1.0, 0.0)));
+    stream(b"y min Velocity 0, 1", y_min(Face::Velocity(0.0, 1.0)));
+    stream(b"y min Velocity 0, -1", y_min(Face::Velocity(0.0, -1.0)));
+    stream(b"y max Velocity 0, 1", y_max(Face::Velocity(0.0, 1.0)));
+    stream(b"y max Velocity 0, -1", y_max(Face::Velocity(0.0, -1.0)));
+}
+
+fn densities() {
+    stream(b"Pressure 1", x_min(Face::Pressure(1.0)));
+    stream(b"Pressure 0", x_min(Face::Pressure(0.0)));
+    stream(b"Pressure -1", x_min(Face::Pressure(-1.0)));
+    stream(b"Pressure NaN", x_min(Face::Pressure(nan())));
+    stream(b"Pressure infinite", x_min(Face::Pressure(infinity())));
+    stream(b"MovingWall 0, NaN", x_min(Face::MovingWall(0.0, nan())));
+}
+
+fn limits() {
+    steady(b"tolerance 0, 1000000 steps", 0.0, 1000000);
+    steady(b"tolerance 0, 1000001 steps", 0.0, 1000001);
+    steady(b"tolerance NaN, 0 steps", nan(), 0);
+    steady(b"tolerance infinite, 0 steps", infinity(), 0);
+    steady(b"tolerance -1, 0 steps", -1.0, 0);
+}
+
+fn places() {
+    density(b"at 2, 1", sized(3, 2), 2, 1);
+    density(b"at 3, 1", sized(3, 2), 3, 1);
+    density(b"at 2, 2", sized(3, 2), 2, 2);
+    plane(b"direction 8", 8);
+    plane(b"direction 9", 9);
+}
+
+fn losses() {
+    let mirrored = faced(Face::Symmetry, Face::Symmetry, Face::NoSlip, Face::NoSlip);
+    let turned = faced(Face::NoSlip, Face::NoSlip, Face::Symmetry, Face::Symmetry);
+    lossless(b"lossless: Pressure 1", x_min(Face::Pressure(1.0)));
+    reverse(b"reverse: x Symmetry, y NoSlip", mirrored);
+    reverse(b"reverse: x NoSlip, y Symmetry", turned);
+}
+
+// ---- the order: all that can be refused at once, then less and less
+
+fn settling(name: &[u8], s: Settings, tolerance: f64, steps: u64, u: usize) {
+    let number = settings::run_to_steady_state_refusal(s, tolerance, steps, 54, 54, u);
+    show::number(name, number);
+}
+
+fn steady_order() {
+    let mut s = x_min(Face::Pressure(0.0));
+    s.nx = 0;
+    s.nu = nan();
+    s.fx = nan();
+    settling(b"run_to_steady_state: all wrong", s, nan(), 1000001, 11);
+    s.nx = 3;
+    settling(
+        b"run_to_steady_state: all wrong but sides",
+        s,
+        nan(),
+        1000001,
+        11,
+    );
+    settling(
+        b"run_to_steady_state: but sides and lengths",
+        s,
+        nan(),
+        1000001,
+        12,
+    );
+    s.nu = 0.1;
+    settling(
+        b"run_to_steady_state: but sides to rates",
+        s,
+        nan(),
+        1000001,
+        12,
+    );
+    s.fx = 0.0;
+    settling(
+        b"run_to_steady_state: but sides to force",
+        s,
+        nan(),
+        1000001,
+        12,
+    );
+    steady(b"run_to_steady_state: but sides to faces", nan(), 1000001);
+    steady(b"run_to_steady_state: only steps wrong", 0.0, 1000001);
+    steady(b"run_to_steady_state: nothing wrong", 0.0, 1000000);
+}
+
+fn reversing(name: &[u8], s: Settings, post: usize) {
+    show::number(name, settings::reverse_refusal(s, 54, post));
+}
+
+fn reverse_order() {
+    let mut s = faced(
+        Face::Pressure(0.0),
+        Face::Periodic,
+        Face::NoSlip,
+        Face::NoSlip,
+    );
+    s.nx = 0;
+    reversing(b"reverse: all wrong", s, 53);
+    s.nx = 3;
+    reversing(b"reverse: all wrong but sides", s, 53);
+    reversing(b"reverse: but sides and lengths", s, 54);
+    let driven = faced(
+        Face::Pressure(1.0),
+        Face::Periodic,
+        Face::NoSlip,
+        Face::NoSlip,
+    );
+    reversing(b"reverse: but sides to face numbers", driven, 54);
+    let unpaired = faced(Face::NoSlip, Face::Periodic, Face::NoSlip, Face::NoSlip);
+    reversing(b"reverse: only losses wrong", unpaired, 54);
+    reversing(b"reverse: nothing wrong", sized(3, 2), 54);
+}
+
+pub fn all() {
+    sides();
+    lengths();
+    viscosities();
+    rates();
+    forces();
+    speeds();
+    densities();
+    limits();
+    places();
+    losses();
+    steady_order();
+    reverse_order();
+}

@@ -1,0 +1,106 @@
+// Each operation, called on lent buffers full of canaries. What is lent as `&` cannot be written; the rest is looked at.
+use crate::show;
+use crate::show::kept;
+use crate::show::zero;
+use lossless::Answer;
+use runs::Steady;
+use settings::Settings;
+
+pub fn initialize(name: &[u8], s: Settings, table: &[u64], f: &mut [u64]) {
+    let number = readings::initialize(s, table, f);
+    show::left(name, number, kept(f));
+}
+
+pub fn density(name: &[u8], s: Settings, f: &[u64], x: usize, y: usize) {
+    let r = readings::density(s, f, x, y);
+    show::zeros(name, r.number, zero(r.value));
+}
+
+pub fn velocity(name: &[u8], s: Settings, f: &[u64], x: usize, y: usize) {
+    let r = readings::velocity(s, f, x, y);
+    show::zeros(name, r.number, zero(r.ux) & zero(r.uy));
+}
+
+pub fn velocity_field(name: &[u8], s: Settings, f: &[u64], u: &mut [u64]) {
+    let number = readings::velocity_field(s, f, u);
+    show::left(name, number, kept(u));
+}
+
+pub fn total_mass(name: &[u8], s: Settings, f: &[u64]) {
+    let r = readings::total_mass(s, f);
+    show::zeros(name, r.number, zero(r.value));
+}
+
+pub fn kinetic_energy(name: &[u8], s: Settings, f: &[u64]) {
+    let r = readings::kinetic_energy(s, f);
+    show::zeros(name, r.number, zero(r.value));
+}
+
+// The question beside the plane has the number, the plane is an empty part.
+pub fn plane(name: &[u8], s: Settings, f: &[u64], i: usize) {
+    let part = readings::plane(s, f, i);
+    show::gives(name, readings::plane_refusal(s, f, i));
+    show::holds(part.len() == 0, b", empty");
+    show::newline();
+}
+
+pub fn stream_with_faces(name: &[u8], s: Settings, post: &[u64], f: &mut [u64]) {
+    let number = streaming::stream_with_faces(s, post, f);
+    show::left(name, number, kept(f));
+}
+
+fn lossless_number(a: Answer) -> u32 {
+    match a {
+        Answer::Refused(number) => number,
+        Answer::Lossless => 0,
+        Answer::Lossy(_, _, _) => 0,
+    }
+}
+
+pub fn lossless(name: &[u8], s: Settings) {
+    show::number(name, lossless_number(lossless::lossless(s)));
+}
+
+pub fn reverse(name: &[u8], s: Settings, f: &[u64], post: &mut [u64]) {
+    let number = lossless::reverse(s, f, post);
+    show::left(name, number, kept(post));
+}
+
+pub fn step(name: &[u8], s: Settings, f: &mut [u64], post: &mut [u64]) {
+    let number = runs::step(s, f, post);
+    show::left(name, number, kept(f) & kept(post));
+}
+
+pub fn run(name: &[u8], s: Settings, steps: u64, f: &mut [u64], post: &mut [u64]) {
+    let number = runs::run(s, steps, f, post);
+    show::left(name, number, kept(f) & kept(post));
+}
+
+pub fn steady_number(a: Steady) -> u32 {
+    match a {
+        Steady::Refused(number) => number,
+        Steady::Settled(_, _) => 0,
+        Steady::RanOut(_, _) => 0,
+        Steady::Ruined(_) => 9,
+    }
+}
+
+pub fn steady(
+    name: &[u8],
+    s: Settings,
+    tolerance: f64,
+    steps: u64,
+    f: &mut [u64],
+    post: &mut [u64],
+    u: &mut [u64],
+) {
+    let a = runs::run_to_steady_state(s, tolerance, steps, 1, f, post, u);
+    show::left(name, steady_number(a), kept(f) & kept(post) & kept(u));
+}
+
+pub fn dir_index(name: &[u8], ex: i32, ey: i32) {
+    let found = lattice::dir_index(ex, ey);
+    show::gives(name, found.number);
+    show::value(b", direction ", found.direction as u64);
+    show::newline();
+}

@@ -1,0 +1,67 @@
+// Number 9, on 1 by 1: what a steady run leaves where a snapshot is bad.
+use crate::calls::steady_number;
+use crate::given::sized;
+use crate::show;
+use crate::show::CANARY;
+use crate::show::kept;
+use runs::Steady;
+
+const MINUS_INFINITY: u64 = 0xfff0_0000_0000_0000;
+
+fn steps_taken(a: Steady) -> u64 {
+    match a {
+        Steady::Refused(_) => 0,
+        Steady::Settled(steps, _) => steps,
+        Steady::RanOut(steps, _) => steps,
+        Steady::Ruined(steps) => steps,
+    }
+}
+
+fn same(a: [u64; 9], b: [u64; 9]) -> bool {
+    let mut i = 0;
+    while i < 9 {
+        if a[i] != b[i] {
+            return false;
+        }
+        i += 1;
+    }
+    true
+}
+
+fn gives(name: &[u8], a: Steady) {
+    show::gives(name, steady_number(a));
+    show::value(b", steps ", steps_taken(a));
+}
+
+// Canaries are NaN, so the first snapshot is bad: all is left as it was.
+fn at_once() {
+    let mut f = [CANARY; 9];
+    let mut post = [CANARY; 9];
+    let mut u = [CANARY; 2];
+    let a = runs::run_to_steady_state(sized(1, 1), 1e-9, 5, 1, &mut f, &mut post, &mut u);
+    gives(b"run_to_steady_state: populations NaN", a);
+    show::holds(kept(&f) & kept(&post) & kept(&u), b", left");
+    show::newline();
+}
+
+// A density of minus infinity has velocity (0, 0) at first; the collision makes NaN of it.
+fn later() {
+    let mut f = [0; 9];
+    f[0] = MINUS_INFINITY;
+    let mut g = f;
+    let mut post = [CANARY; 9];
+    let mut collided = [CANARY; 9];
+    let mut u = [CANARY; 2];
+    let s = sized(1, 1);
+    let a = runs::run_to_steady_state(s, 1e-9, 5, 1, &mut f, &mut post, &mut u);
+    runs::step(s, &mut g, &mut collided);
+    gives(b"run_to_steady_state: population 0 minus infinity", a);
+    show::holds(same(f, g) & same(post, collided), b", stepped once");
+    show::holds((u[0] == 0) & (u[1] == 0), b", first snapshot kept");
+    show::newline();
+}
+
+pub fn all() {
+    at_once();
+    later();
+}
