@@ -1,4 +1,3 @@
 pub mod Tests
 pub mod Refusals
 pub mod Outcome
-pub mod Examples
