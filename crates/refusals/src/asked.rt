@@ -17,56 +17,72 @@ use settings::Settings;
 
 // ---- questions on 3 by 2, each buffer of the right length
 
-fn step(name: &[u8], s: Settings) {
-    show::number(name, settings::step_refusal(s, 54, 54));
+fn step(case: &[u8], s: Settings) {
+    show::number(b"step", case, settings::step_refusal(s, 54, 54));
 }
 
-fn velocity(name: &[u8], s: Settings) {
-    show::number(name, settings::velocity_refusal(s, 54, 0, 0));
+fn velocity(case: &[u8], s: Settings) {
+    show::number(b"velocity", case, settings::velocity_refusal(s, 54, 0, 0));
 }
 
-fn density(name: &[u8], s: Settings, x: usize, y: usize) {
-    show::number(name, settings::density_refusal(s, 54, x, y));
+fn density(case: &[u8], s: Settings, x: usize, y: usize) {
+    show::number(b"density", case, settings::density_refusal(s, 54, x, y));
 }
 
-fn plane(name: &[u8], i: usize) {
-    show::number(name, settings::plane_refusal(sized(3, 2), 54, i));
+fn plane(case: &[u8], i: usize) {
+    show::number(b"plane", case, settings::plane_refusal(sized(3, 2), 54, i));
 }
 
-fn stream(name: &[u8], s: Settings) {
-    show::number(name, settings::stream_with_faces_refusal(s, 54, 54));
+fn stream(case: &[u8], s: Settings) {
+    show::number(
+        b"stream_with_faces",
+        case,
+        settings::stream_with_faces_refusal(s, 54, 54),
+    );
 }
 
-fn lossless(name: &[u8], s: Settings) {
-    show::number(name, settings::lossless_refusal(s));
+fn lossless(case: &[u8], s: Settings) {
+    show::number(b"lossless", case, settings::lossless_refusal(s));
 }
 
-fn reverse(name: &[u8], s: Settings) {
-    show::number(name, settings::reverse_refusal(s, 54, 54));
+fn reverse(case: &[u8], s: Settings) {
+    show::number(b"reverse", case, settings::reverse_refusal(s, 54, 54));
 }
 
-fn steady(name: &[u8], tolerance: f64, steps: u64) {
+fn steady(case: &[u8], tolerance: f64, steps: u64) {
     let s = sized(3, 2);
     let number = settings::run_to_steady_state_refusal(s, tolerance, steps, 54, 54, 12);
-    show::number(name, number);
+    show::number(b"run_to_steady_state", case, number);
 }
 
 // ---- bounds
 
 fn sides() {
-    lossless(b"sides 0 by 7", sized(0, 7));
-    lossless(b"sides 7 by 0", sized(7, 0));
-    lossless(b"sides 4097 by 1", sized(4097, 1));
-    lossless(b"sides 1 by 4097", sized(1, 4097));
-    lossless(b"sides 4096 by 256", sized(4096, 256));
-    lossless(b"sides 4096 by 257", sized(4096, 257));
+    lossless(b"0 by 7", sized(0, 7));
+    lossless(b"7 by 0", sized(7, 0));
+    lossless(b"4097 by 1", sized(4097, 1));
+    lossless(b"1 by 4097", sized(1, 4097));
+    lossless(b"4096 by 256", sized(4096, 256));
+    lossless(b"4096 by 257", sized(4096, 257));
 }
 
 fn lengths() {
     let s = sized(3, 2);
-    show::number(b"lengths 54 and 54", settings::step_refusal(s, 54, 54));
-    show::number(b"lengths 53 and 54", settings::step_refusal(s, 53, 54));
-    show::number(b"lengths 54 and 55", settings::step_refusal(s, 54, 55));
+    show::number(
+        b"step",
+        b"lengths 54 and 54",
+        settings::step_refusal(s, 54, 54),
+    );
+    show::number(
+        b"step",
+        b"lengths 53 and 54",
+        settings::step_refusal(s, 53, 54),
+    );
+    show::number(
+        b"step",
+        b"lengths 54 and 55",
+        settings::step_refusal(s, 54, 55),
+    );
 }
 
 fn viscosities() {
@@ -88,9 +104,9 @@ fn rates() {
 }
 
 fn forces() {
-    velocity(b"velocity: force NaN", forced(nan(), 0.0));
-    velocity(b"velocity: force minus infinity", forced(-infinity(), 0.0));
-    density(b"density: force NaN", forced(nan(), 0.0), 0, 0);
+    velocity(b"force NaN", forced(nan(), 0.0));
+    velocity(b"force minus infinity", forced(-infinity(), 0.0));
+    density(b"force NaN", forced(nan(), 0.0), 0, 0);
 }
 
 fn speeds() {
@@ -132,16 +148,16 @@ fn places() {
 fn losses() {
     let mirrored = faced(Face::Symmetry, Face::Symmetry, Face::NoSlip, Face::NoSlip);
     let turned = faced(Face::NoSlip, Face::NoSlip, Face::Symmetry, Face::Symmetry);
-    lossless(b"lossless: Pressure 1", x_min(Face::Pressure(1.0)));
-    reverse(b"reverse: x Symmetry, y NoSlip", mirrored);
-    reverse(b"reverse: x NoSlip, y Symmetry", turned);
+    lossless(b"Pressure 1", x_min(Face::Pressure(1.0)));
+    reverse(b"x Symmetry, y NoSlip", mirrored);
+    reverse(b"x NoSlip, y Symmetry", turned);
 }
 
 // ---- the order: all that can be refused at once, then less and less
 
-fn settling(name: &[u8], s: Settings, tolerance: f64, steps: u64, u: usize) {
+fn settling(case: &[u8], s: Settings, tolerance: f64, steps: u64, u: usize) {
     let number = settings::run_to_steady_state_refusal(s, tolerance, steps, 54, 54, u);
-    show::number(name, number);
+    show::number(b"run_to_steady_state", case, number);
 }
 
 fn steady_order() {
@@ -149,45 +165,21 @@ fn steady_order() {
     s.nx = 0;
     s.nu = nan();
     s.fx = nan();
-    settling(b"run_to_steady_state: all wrong", s, nan(), 1000001, 11);
+    settling(b"all wrong", s, nan(), 1000001, 11);
     s.nx = 3;
-    settling(
-        b"run_to_steady_state: all wrong but sides",
-        s,
-        nan(),
-        1000001,
-        11,
-    );
-    settling(
-        b"run_to_steady_state: but sides and lengths",
-        s,
-        nan(),
-        1000001,
-        12,
-    );
+    settling(b"all wrong but sides", s, nan(), 1000001, 11);
+    settling(b"but sides and lengths", s, nan(), 1000001, 12);
     s.nu = 0.1;
-    settling(
-        b"run_to_steady_state: but sides to rates",
-        s,
-        nan(),
-        1000001,
-        12,
-    );
+    settling(b"but sides to rates", s, nan(), 1000001, 12);
     s.fx = 0.0;
-    settling(
-        b"run_to_steady_state: but sides to force",
-        s,
-        nan(),
-        1000001,
-        12,
-    );
-    steady(b"run_to_steady_state: but sides to faces", nan(), 1000001);
-    steady(b"run_to_steady_state: only steps wrong", 0.0, 1000001);
-    steady(b"run_to_steady_state: nothing wrong", 0.0, 1000000);
+    settling(b"but sides to force", s, nan(), 1000001, 12);
+    steady(b"but sides to faces", nan(), 1000001);
+    steady(b"only steps wrong", 0.0, 1000001);
+    steady(b"nothing wrong", 0.0, 1000000);
 }
 
-fn reversing(name: &[u8], s: Settings, post: usize) {
-    show::number(name, settings::reverse_refusal(s, 54, post));
+fn reversing(case: &[u8], s: Settings, post: usize) {
+    show::number(b"reverse", case, settings::reverse_refusal(s, 54, post));
 }
 
 fn reverse_order() {
@@ -198,20 +190,20 @@ fn reverse_order() {
         Face::NoSlip,
     );
     s.nx = 0;
-    reversing(b"reverse: all wrong", s, 53);
+    reversing(b"all wrong", s, 53);
     s.nx = 3;
-    reversing(b"reverse: all wrong but sides", s, 53);
-    reversing(b"reverse: but sides and lengths", s, 54);
+    reversing(b"all wrong but sides", s, 53);
+    reversing(b"but sides and lengths", s, 54);
     let driven = faced(
         Face::Pressure(1.0),
         Face::Periodic,
         Face::NoSlip,
         Face::NoSlip,
     );
-    reversing(b"reverse: but sides to face numbers", driven, 54);
+    reversing(b"but sides to face numbers", driven, 54);
     let unpaired = faced(Face::NoSlip, Face::Periodic, Face::NoSlip, Face::NoSlip);
-    reversing(b"reverse: only losses wrong", unpaired, 54);
-    reversing(b"reverse: nothing wrong", sized(3, 2), 54);
+    reversing(b"only losses wrong", unpaired, 54);
+    reversing(b"nothing wrong", sized(3, 2), 54);
 }
 
 pub fn all() {

@@ -6,47 +6,47 @@ use lossless::Answer;
 use runs::Steady;
 use settings::Settings;
 
-pub fn initialize(name: &[u8], s: Settings, table: &[u64], f: &mut [u64]) {
+pub fn initialize(case: &[u8], s: Settings, table: &[u64], f: &mut [u64]) {
     let number = readings::initialize(s, table, f);
-    show::left(name, number, kept(f));
+    show::left(b"initialize", case, number, kept(f));
 }
 
-pub fn density(name: &[u8], s: Settings, f: &[u64], x: usize, y: usize) {
+pub fn density(case: &[u8], s: Settings, f: &[u64], x: usize, y: usize) {
     let r = readings::density(s, f, x, y);
-    show::zeros(name, r.number, zero(r.value));
+    show::zeros(b"density", case, r.number, zero(r.value));
 }
 
-pub fn velocity(name: &[u8], s: Settings, f: &[u64], x: usize, y: usize) {
+pub fn velocity(case: &[u8], s: Settings, f: &[u64], x: usize, y: usize) {
     let r = readings::velocity(s, f, x, y);
-    show::zeros(name, r.number, zero(r.ux) & zero(r.uy));
+    show::zeros(b"velocity", case, r.number, zero(r.ux) & zero(r.uy));
 }
 
-pub fn velocity_field(name: &[u8], s: Settings, f: &[u64], u: &mut [u64]) {
+pub fn velocity_field(case: &[u8], s: Settings, f: &[u64], u: &mut [u64]) {
     let number = readings::velocity_field(s, f, u);
-    show::left(name, number, kept(u));
+    show::left(b"velocity_field", case, number, kept(u));
 }
 
-pub fn total_mass(name: &[u8], s: Settings, f: &[u64]) {
+pub fn total_mass(case: &[u8], s: Settings, f: &[u64]) {
     let r = readings::total_mass(s, f);
-    show::zeros(name, r.number, zero(r.value));
+    show::zeros(b"total_mass", case, r.number, zero(r.value));
 }
 
-pub fn kinetic_energy(name: &[u8], s: Settings, f: &[u64]) {
+pub fn kinetic_energy(case: &[u8], s: Settings, f: &[u64]) {
     let r = readings::kinetic_energy(s, f);
-    show::zeros(name, r.number, zero(r.value));
+    show::zeros(b"kinetic_energy", case, r.number, zero(r.value));
 }
 
 // The question beside the plane has the number, the plane is an empty part.
-pub fn plane(name: &[u8], s: Settings, f: &[u64], i: usize) {
+pub fn plane(case: &[u8], s: Settings, f: &[u64], i: usize) {
     let part = readings::plane(s, f, i);
-    show::gives(name, readings::plane_refusal(s, f, i));
+    show::gives(b"plane", case, readings::plane_refusal(s, f, i));
     show::holds(part.len() == 0, b", empty");
     show::newline();
 }
 
-pub fn stream_with_faces(name: &[u8], s: Settings, post: &[u64], f: &mut [u64]) {
+pub fn stream_with_faces(case: &[u8], s: Settings, post: &[u64], f: &mut [u64]) {
     let number = streaming::stream_with_faces(s, post, f);
-    show::left(name, number, kept(f));
+    show::left(b"stream_with_faces", case, number, kept(f));
 }
 
 fn lossless_number(a: Answer) -> u32 {
@@ -57,23 +57,23 @@ fn lossless_number(a: Answer) -> u32 {
     }
 }
 
-pub fn lossless(name: &[u8], s: Settings) {
-    show::number(name, lossless_number(lossless::lossless(s)));
+pub fn lossless(case: &[u8], s: Settings) {
+    show::number(b"lossless", case, lossless_number(lossless::lossless(s)));
 }
 
-pub fn reverse(name: &[u8], s: Settings, f: &[u64], post: &mut [u64]) {
+pub fn reverse(case: &[u8], s: Settings, f: &[u64], post: &mut [u64]) {
     let number = lossless::reverse(s, f, post);
-    show::left(name, number, kept(post));
+    show::left(b"reverse", case, number, kept(post));
 }
 
-pub fn step(name: &[u8], s: Settings, f: &mut [u64], post: &mut [u64]) {
+pub fn step(case: &[u8], s: Settings, f: &mut [u64], post: &mut [u64]) {
     let number = runs::step(s, f, post);
-    show::left(name, number, kept(f) & kept(post));
+    show::left(b"step", case, number, kept(f) & kept(post));
 }
 
-pub fn run(name: &[u8], s: Settings, steps: u64, f: &mut [u64], post: &mut [u64]) {
+pub fn run(case: &[u8], s: Settings, steps: u64, f: &mut [u64], post: &mut [u64]) {
     let number = runs::run(s, steps, f, post);
-    show::left(name, number, kept(f) & kept(post));
+    show::left(b"run", case, number, kept(f) & kept(post));
 }
 
 pub fn steady_number(a: Steady) -> u32 {
@@ -86,7 +86,7 @@ pub fn steady_number(a: Steady) -> u32 {
 }
 
 pub fn steady(
-    name: &[u8],
+    case: &[u8],
     s: Settings,
     tolerance: f64,
     steps: u64,
@@ -95,12 +95,17 @@ pub fn steady(
     u: &mut [u64],
 ) {
     let a = runs::run_to_steady_state(s, tolerance, steps, 1, f, post, u);
-    show::left(name, steady_number(a), kept(f) & kept(post) & kept(u));
+    show::left(
+        b"run_to_steady_state",
+        case,
+        steady_number(a),
+        kept(f) & kept(post) & kept(u),
+    );
 }
 
-pub fn dir_index(name: &[u8], ex: i32, ey: i32) {
+pub fn dir_index(case: &[u8], ex: i32, ey: i32) {
     let found = lattice::dir_index(ex, ey);
-    show::gives(name, found.number);
+    show::gives(b"dir_index", case, found.number);
     show::value(b", direction ", found.direction as u64);
     show::newline();
 }

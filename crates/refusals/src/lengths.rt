@@ -13,27 +13,27 @@ fn readings() {
     let s = sized(3, 2);
     let mut f = F;
     let mut u = [CANARY; 12];
-    calls::initialize(b"initialize: table 17", s, &[CANARY; 17], &mut f);
+    calls::initialize(b"table 17", s, &[CANARY; 17], &mut f);
     let mut f = SHORT;
-    calls::initialize(b"initialize: populations 53", s, &[CANARY; 18], &mut f);
-    calls::density(b"density: populations 55", s, &LONG, 0, 0);
-    calls::velocity(b"velocity: populations 53", s, &SHORT, 0, 0);
-    calls::velocity_field(b"velocity_field: populations 53", s, &SHORT, &mut u);
+    calls::initialize(b"populations 53", s, &[CANARY; 18], &mut f);
+    calls::density(b"populations 55", s, &LONG, 0, 0);
+    calls::velocity(b"populations 53", s, &SHORT, 0, 0);
+    calls::velocity_field(b"populations 53", s, &SHORT, &mut u);
     let mut u = [CANARY; 11];
-    calls::velocity_field(b"velocity_field: velocities 11", s, &F, &mut u);
-    calls::total_mass(b"total_mass: populations 53", s, &SHORT);
-    calls::kinetic_energy(b"kinetic_energy: populations 55", s, &LONG);
-    calls::plane(b"plane: populations 53", s, &SHORT, 0);
+    calls::velocity_field(b"velocities 11", s, &F, &mut u);
+    calls::total_mass(b"populations 53", s, &SHORT);
+    calls::kinetic_energy(b"populations 55", s, &LONG);
+    calls::plane(b"populations 53", s, &SHORT, 0);
 }
 
 fn carrying() {
     let s = sized(3, 2);
     let mut right = F;
     let mut long = LONG;
-    calls::stream_with_faces(b"stream_with_faces: populations 55", s, &F, &mut long);
-    calls::stream_with_faces(b"stream_with_faces: post 53", s, &SHORT, &mut right);
-    calls::reverse(b"reverse: populations 53", s, &SHORT, &mut right);
-    calls::reverse(b"reverse: post 55", s, &F, &mut long);
+    calls::stream_with_faces(b"populations 55", s, &F, &mut long);
+    calls::stream_with_faces(b"post 53", s, &SHORT, &mut right);
+    calls::reverse(b"populations 53", s, &SHORT, &mut right);
+    calls::reverse(b"post 55", s, &F, &mut long);
 }
 
 fn stepping() {
@@ -41,10 +41,10 @@ fn stepping() {
     let mut right = F;
     let mut short = SHORT;
     let mut long = LONG;
-    calls::step(b"step: populations 53", s, &mut short, &mut right);
-    calls::step(b"step: post 55", s, &mut right, &mut long);
-    calls::run(b"run: populations 55", s, 1, &mut long, &mut right);
-    calls::run(b"run: post 53", s, 1, &mut right, &mut short);
+    calls::step(b"populations 53", s, &mut short, &mut right);
+    calls::step(b"post 55", s, &mut right, &mut long);
+    calls::run(b"populations 55", s, 1, &mut long, &mut right);
+    calls::run(b"post 53", s, 1, &mut right, &mut short);
 }
 
 fn settling() {
@@ -55,33 +55,9 @@ fn settling() {
     let mut short = SHORT;
     let mut long = LONG;
     let mut u_long = [CANARY; 13];
-    calls::steady(
-        b"run_to_steady_state: populations 53",
-        s,
-        0.0,
-        1,
-        &mut short,
-        &mut post,
-        &mut u,
-    );
-    calls::steady(
-        b"run_to_steady_state: post 55",
-        s,
-        0.0,
-        1,
-        &mut f,
-        &mut long,
-        &mut u,
-    );
-    calls::steady(
-        b"run_to_steady_state: velocities 13",
-        s,
-        0.0,
-        1,
-        &mut f,
-        &mut post,
-        &mut u_long,
-    );
+    calls::steady(b"populations 53", s, 0.0, 1, &mut short, &mut post, &mut u);
+    calls::steady(b"post 55", s, 0.0, 1, &mut f, &mut long, &mut u);
+    calls::steady(b"velocities 13", s, 0.0, 1, &mut f, &mut post, &mut u_long);
 }
 
 pub fn all() {

@@ -18,91 +18,72 @@ use settings::Settings;
 
 const F: [u64; 54] = [CANARY; 54];
 
-fn initialize(name: &[u8], s: Settings) {
-    calls::initialize(name, s, &[CANARY; 18], &mut [CANARY; 54]);
+fn initialize(case: &[u8], s: Settings) {
+    calls::initialize(case, s, &[CANARY; 18], &mut [CANARY; 54]);
 }
 
-fn velocity_field(name: &[u8], s: Settings) {
-    calls::velocity_field(name, s, &F, &mut [CANARY; 12]);
+fn velocity_field(case: &[u8], s: Settings) {
+    calls::velocity_field(case, s, &F, &mut [CANARY; 12]);
 }
 
-fn stream_with_faces(name: &[u8], s: Settings) {
-    calls::stream_with_faces(name, s, &F, &mut [CANARY; 54]);
+fn stream_with_faces(case: &[u8], s: Settings) {
+    calls::stream_with_faces(case, s, &F, &mut [CANARY; 54]);
 }
 
-fn reverse(name: &[u8], s: Settings) {
-    calls::reverse(name, s, &F, &mut [CANARY; 54]);
+fn reverse(case: &[u8], s: Settings) {
+    calls::reverse(case, s, &F, &mut [CANARY; 54]);
 }
 
-fn step(name: &[u8], s: Settings) {
-    calls::step(name, s, &mut [CANARY; 54], &mut [CANARY; 54]);
+fn step(case: &[u8], s: Settings) {
+    calls::step(case, s, &mut [CANARY; 54], &mut [CANARY; 54]);
 }
 
-fn run(name: &[u8], s: Settings, steps: u64) {
-    calls::run(name, s, steps, &mut [CANARY; 54], &mut [CANARY; 54]);
+fn run(case: &[u8], s: Settings, steps: u64) {
+    calls::run(case, s, steps, &mut [CANARY; 54], &mut [CANARY; 54]);
 }
 
-fn steady(name: &[u8], s: Settings, tolerance: f64, steps: u64) {
+fn steady(case: &[u8], s: Settings, tolerance: f64, steps: u64) {
     let mut f = F;
     let mut post = F;
     let mut u = [CANARY; 12];
-    calls::steady(name, s, tolerance, steps, &mut f, &mut post, &mut u);
+    calls::steady(case, s, tolerance, steps, &mut f, &mut post, &mut u);
 }
 
 // Number 1.
 fn sides() {
-    initialize(b"initialize: 0 by 2", sized(0, 2));
-    calls::density(b"density: 4097 by 1", sized(4097, 1), &F, 0, 0);
-    calls::velocity(b"velocity: 1 by 0", sized(1, 0), &F, 0, 0);
-    velocity_field(b"velocity_field: 1 by 4097", sized(1, 4097));
-    calls::total_mass(b"total_mass: 4096 by 257", sized(4096, 257), &F);
-    calls::kinetic_energy(b"kinetic_energy: 0 by 0", sized(0, 0), &F);
-    calls::plane(b"plane: 0 by 2", sized(0, 2), &F, 0);
-    stream_with_faces(b"stream_with_faces: 4096 by 257", sized(4096, 257));
-    calls::lossless(b"lossless: 4097 by 1", sized(4097, 1));
-    reverse(b"reverse: 0 by 2", sized(0, 2));
-    step(b"step: 1 by 4097", sized(1, 4097));
-    run(b"run: 3 by 0", sized(3, 0), 1);
-    steady(
-        b"run_to_steady_state: 4096 by 257",
-        sized(4096, 257),
-        0.0,
-        1,
-    );
+    initialize(b"0 by 2", sized(0, 2));
+    calls::density(b"4097 by 1", sized(4097, 1), &F, 0, 0);
+    calls::velocity(b"1 by 0", sized(1, 0), &F, 0, 0);
+    velocity_field(b"1 by 4097", sized(1, 4097));
+    calls::total_mass(b"4096 by 257", sized(4096, 257), &F);
+    calls::kinetic_energy(b"0 by 0", sized(0, 0), &F);
+    calls::plane(b"0 by 2", sized(0, 2), &F, 0);
+    stream_with_faces(b"4096 by 257", sized(4096, 257));
+    calls::lossless(b"4097 by 1", sized(4097, 1));
+    reverse(b"0 by 2", sized(0, 2));
+    step(b"1 by 4097", sized(1, 4097));
+    run(b"3 by 0", sized(3, 0), 1);
+    steady(b"4096 by 257", sized(4096, 257), 0.0, 1);
 }
 
 // Number 3.
 fn rates() {
-    step(b"step: viscosity NaN", viscous(nan()));
-    step(b"step: minus rate -1", colliding(Collision::Trt(-1.0)));
-    run(b"run: viscosity -1", viscous(-1.0), 1);
-    run(b"run: minus rate NaN", colliding(Collision::Trt(nan())), 1);
-    steady(
-        b"run_to_steady_state: viscosity infinite",
-        viscous(infinity()),
-        0.0,
-        1,
-    );
-    steady(
-        b"run_to_steady_state: minus rate 3",
-        colliding(Collision::Trt(3.0)),
-        0.0,
-        1,
-    );
+    step(b"viscosity NaN", viscous(nan()));
+    step(b"minus rate -1", colliding(Collision::Trt(-1.0)));
+    run(b"viscosity -1", viscous(-1.0), 1);
+    run(b"minus rate NaN", colliding(Collision::Trt(nan())), 1);
+    steady(b"viscosity infinite", viscous(infinity()), 0.0, 1);
+    steady(b"minus rate 3", colliding(Collision::Trt(3.0)), 0.0, 1);
 }
 
 // Number 4.
 fn forces() {
-    calls::velocity(b"velocity: fx infinite", forced(infinity(), 0.0), &F, 0, 0);
-    velocity_field(b"velocity_field: fy NaN", forced(0.0, nan()));
-    calls::kinetic_energy(
-        b"kinetic_energy: fx -infinite",
-        forced(-infinity(), 0.0),
-        &F,
-    );
-    step(b"step: fx NaN", forced(nan(), 0.0));
-    run(b"run: fy infinite", forced(0.0, infinity()), 1);
-    steady(b"run_to_steady_state: fx NaN", forced(nan(), 0.0), 0.0, 1);
+    calls::velocity(b"fx infinite", forced(infinity(), 0.0), &F, 0, 0);
+    velocity_field(b"fy NaN", forced(0.0, nan()));
+    calls::kinetic_energy(b"fx -infinite", forced(-infinity(), 0.0), &F);
+    step(b"fx NaN", forced(nan(), 0.0));
+    run(b"fy infinite", forced(0.0, infinity()), 1);
+    steady(b"fx NaN", forced(nan(), 0.0), 0.0, 1);
 }
 
 // Number 5.
@@ -111,52 +92,47 @@ fn faces() {
     let empty = x_max(Face::Pressure(0.0));
     let unknown = y_min(Face::MovingWall(nan(), 0.0));
     let endless = y_max(Face::Velocity(infinity(), 0.0));
-    stream_with_faces(b"stream_with_faces: x min Velocity 1, 0", inwards);
-    stream_with_faces(b"stream_with_faces: x max Pressure 0", empty);
-    stream_with_faces(b"stream_with_faces: y min MovingWall NaN, 0", unknown);
-    stream_with_faces(b"stream_with_faces: y max Velocity infinite, 0", endless);
-    calls::lossless(b"lossless: y min MovingWall NaN, 0", unknown);
-    reverse(b"reverse: x max Pressure 0", empty);
-    step(b"step: y max Velocity infinite, 0", endless);
-    run(b"run: x min Velocity 1, 0", inwards, 1);
-    steady(b"run_to_steady_state: x max Pressure 0", empty, 0.0, 1);
+    stream_with_faces(b"x min Velocity 1, 0", inwards);
+    stream_with_faces(b"x max Pressure 0", empty);
+    stream_with_faces(b"y min MovingWall NaN, 0", unknown);
+    stream_with_faces(b"y max Velocity infinite, 0", endless);
+    calls::lossless(b"y min MovingWall NaN, 0", unknown);
+    reverse(b"x max Pressure 0", empty);
+    step(b"y max Velocity infinite, 0", endless);
+    run(b"x min Velocity 1, 0", inwards, 1);
+    steady(b"x max Pressure 0", empty, 0.0, 1);
 }
 
 // Number 10.
 fn limits() {
-    run(b"run: 1000001 steps", sized(3, 2), 1000001);
-    steady(
-        b"run_to_steady_state: 1000001 steps",
-        sized(3, 2),
-        0.0,
-        1000001,
-    );
-    steady(b"run_to_steady_state: tolerance NaN", sized(3, 2), nan(), 1);
+    run(b"1000001 steps", sized(3, 2), 1000001);
+    steady(b"1000001 steps", sized(3, 2), 0.0, 1000001);
+    steady(b"tolerance NaN", sized(3, 2), nan(), 1);
 }
 
 // Number 6.
 fn places() {
     let s = sized(3, 2);
-    calls::density(b"density: at 3, 0", s, &F, 3, 0);
-    calls::density(b"density: at 0, 2", s, &F, 0, 2);
-    calls::velocity(b"velocity: at 3, 0", s, &F, 3, 0);
-    calls::velocity(b"velocity: at 0, 2", s, &F, 0, 2);
-    calls::plane(b"plane: direction 9", s, &F, 9);
+    calls::density(b"at 3, 0", s, &F, 3, 0);
+    calls::density(b"at 0, 2", s, &F, 0, 2);
+    calls::velocity(b"at 3, 0", s, &F, 3, 0);
+    calls::velocity(b"at 0, 2", s, &F, 0, 2);
+    calls::plane(b"direction 9", s, &F, 9);
 }
 
 // Numbers 7 and 8.
 fn losses() {
     let driven = x_min(Face::Pressure(1.0));
     let unpaired = faced(Face::NoSlip, Face::Periodic, Face::Periodic, Face::Periodic);
-    calls::lossless(b"lossless: x min Pressure 1", driven);
-    reverse(b"reverse: x min Pressure 1", driven);
-    reverse(b"reverse: x min NoSlip, x max Periodic", unpaired);
+    calls::lossless(b"x min Pressure 1", driven);
+    reverse(b"x min Pressure 1", driven);
+    reverse(b"x min NoSlip, x max Periodic", unpaired);
 }
 
 // Number 11, and a row of E.
 fn lookups() {
-    calls::dir_index(b"dir_index: 2, 0", 2, 0);
-    calls::dir_index(b"dir_index: 0, -1", 0, -1);
+    calls::dir_index(b"2, 0", 2, 0);
+    calls::dir_index(b"0, -1", 0, -1);
 }
 
 // Where several apply, the first in the order 1, 2, 3, 4, 5, 10, 6.
@@ -164,30 +140,16 @@ fn order() {
     let inwards = x_min(Face::Velocity(1.0, 0.0));
     let short = [CANARY; 53];
     calls::density(
-        b"density: 0 by 1, populations 53, at 2, 0",
+        b"0 by 1, populations 53, at 2, 0",
         sized(0, 1),
         &short,
         2,
         0,
     );
-    calls::plane(
-        b"plane: populations 53, direction 9",
-        sized(3, 2),
-        &short,
-        9,
-    );
-    calls::velocity(b"velocity: fx NaN, at 3, 0", forced(nan(), 0.0), &F, 3, 0);
-    run(
-        b"run: viscosity NaN, 1000001 steps",
-        viscous(nan()),
-        1000001,
-    );
-    steady(
-        b"run_to_steady_state: x min Velocity 1, 0, tolerance NaN",
-        inwards,
-        nan(),
-        1,
-    );
+    calls::plane(b"populations 53, direction 9", sized(3, 2), &short, 9);
+    calls::velocity(b"fx NaN, at 3, 0", forced(nan(), 0.0), &F, 3, 0);
+    run(b"viscosity NaN, 1000001 steps", viscous(nan()), 1000001);
+    steady(b"x min Velocity 1, 0, tolerance NaN", inwards, nan(), 1);
 }
 
 pub fn all() {

@@ -28,8 +28,8 @@ fn same(a: [u64; 9], b: [u64; 9]) -> bool {
     true
 }
 
-fn gives(name: &[u8], a: Steady) {
-    show::gives(name, steady_number(a));
+fn gives(case: &[u8], a: Steady) {
+    show::gives(b"run_to_steady_state", case, steady_number(a));
     show::value(b", steps ", steps_taken(a));
 }
 
@@ -39,7 +39,7 @@ fn at_once() {
     let mut post = [CANARY; 9];
     let mut u = [CANARY; 2];
     let a = runs::run_to_steady_state(sized(1, 1), 1e-9, 5, 1, &mut f, &mut post, &mut u);
-    gives(b"run_to_steady_state: populations NaN", a);
+    gives(b"populations NaN", a);
     show::holds(kept(&f) & kept(&post) & kept(&u), b", left");
     show::newline();
 }
@@ -55,7 +55,7 @@ fn later() {
     let s = sized(1, 1);
     let a = runs::run_to_steady_state(s, 1e-9, 5, 1, &mut f, &mut post, &mut u);
     runs::step(s, &mut g, &mut collided);
-    gives(b"run_to_steady_state: population 0 minus infinity", a);
+    gives(b"population 0 minus infinity", a);
     show::holds(same(f, g) & same(post, collided), b", stepped once");
     show::holds((u[0] == 0) & (u[1] == 0), b", first snapshot kept");
     show::newline();

@@ -1,4 +1,4 @@
-// A line for each case: its name, the number that it gives, values of its answer, and whether what it leaves is as it must be.
+// A line for each case: its operation and name, the number that it gives, values of its answer, and whether what it leaves is as it must be.
 use libc::STDOUT_FILENO;
 
 // A NaN with a payload, so that a copy of it is told from any number.
@@ -19,8 +19,10 @@ pub fn zero(v: f64) -> bool {
     number::pattern(v) == 0
 }
 
-pub fn gives(name: &[u8], number: u32) {
-    io::write_all(STDOUT_FILENO, name);
+pub fn gives(operation: &[u8], case: &[u8], number: u32) {
+    io::write_all(STDOUT_FILENO, operation);
+    io::write_all(STDOUT_FILENO, b": ");
+    io::write_all(STDOUT_FILENO, case);
     io::write_all(STDOUT_FILENO, b" gives ");
     io::print_decimal(STDOUT_FILENO, number as u64);
 }
@@ -43,19 +45,19 @@ pub fn holds(it: bool, word: &[u8]) {
     }
 }
 
-pub fn number(name: &[u8], number: u32) {
-    gives(name, number);
+pub fn number(operation: &[u8], case: &[u8], number: u32) {
+    gives(operation, case, number);
     newline();
 }
 
-pub fn left(name: &[u8], number: u32, all: bool) {
-    gives(name, number);
+pub fn left(operation: &[u8], case: &[u8], number: u32, all: bool) {
+    gives(operation, case, number);
     holds(all, b", left");
     newline();
 }
 
-pub fn zeros(name: &[u8], number: u32, all: bool) {
-    gives(name, number);
+pub fn zeros(operation: &[u8], case: &[u8], number: u32, all: bool) {
+    gives(operation, case, number);
     holds(all, b", zero");
     newline();
 }
