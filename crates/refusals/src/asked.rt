@@ -109,11 +109,14 @@ fn forces() {
     density(b"force NaN", forced(nan(), 0.0), 0, 0);
 }
 
-fn speeds() {
+fn x_speeds() {
     stream(b"x min Velocity 1, 0", x_min(Face::Velocity(1.0, 0.0)));
     stream(b"x min Velocity -1, 0", x_min(Face::Velocity(-1.0, 0.0)));
     stream(b"x max Velocity 1, 0", x_max(Face::Velocity(1.0, 0.0)));
     stream(b"x max Velocity -1, 0", x_max(Face::Velocity(-1.0, 0.0)));
+}
+
+fn y_speeds() {
     stream(b"y min Velocity 0, 1", y_min(Face::Velocity(0.0, 1.0)));
     stream(b"y min Velocity 0, -1", y_min(Face::Velocity(0.0, -1.0)));
     stream(b"y max Velocity 0, 1", y_max(Face::Velocity(0.0, 1.0)));
@@ -212,7 +215,8 @@ pub fn all() {
     viscosities();
     rates();
     forces();
-    speeds();
+    x_speeds();
+    y_speeds();
     densities();
     limits();
     places();

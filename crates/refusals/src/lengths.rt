@@ -12,12 +12,16 @@ const LONG: [u64; 55] = [CANARY; 55];
 fn readings() {
     let s = sized(3, 2);
     let mut f = F;
-    let mut u = [CANARY; 12];
     calls::initialize(b"table 17", s, &[CANARY; 17], &mut f);
     let mut f = SHORT;
     calls::initialize(b"populations 53", s, &[CANARY; 18], &mut f);
     calls::density(b"populations 55", s, &LONG, 0, 0);
     calls::velocity(b"populations 53", s, &SHORT, 0, 0);
+}
+
+fn fields() {
+    let s = sized(3, 2);
+    let mut u = [CANARY; 12];
     calls::velocity_field(b"populations 53", s, &SHORT, &mut u);
     let mut u = [CANARY; 11];
     calls::velocity_field(b"velocities 11", s, &F, &mut u);
@@ -62,6 +66,7 @@ fn settling() {
 
 pub fn all() {
     readings();
+    fields();
     carrying();
     stepping();
     settling();

@@ -50,17 +50,26 @@ fn steady(case: &[u8], s: Settings, tolerance: f64, steps: u64) {
 }
 
 // Number 1.
-fn sides() {
+fn sides_read() {
     initialize(b"0 by 2", sized(0, 2));
     calls::density(b"4097 by 1", sized(4097, 1), &F, 0, 0);
     calls::velocity(b"1 by 0", sized(1, 0), &F, 0, 0);
     velocity_field(b"1 by 4097", sized(1, 4097));
+}
+
+fn sides_summed() {
     calls::total_mass(b"4096 by 257", sized(4096, 257), &F);
     calls::kinetic_energy(b"0 by 0", sized(0, 0), &F);
     calls::plane(b"0 by 2", sized(0, 2), &F, 0);
+}
+
+fn sides_carried() {
     stream_with_faces(b"4096 by 257", sized(4096, 257));
     calls::lossless(b"4097 by 1", sized(4097, 1));
     reverse(b"0 by 2", sized(0, 2));
+}
+
+fn sides_stepped() {
     step(b"1 by 4097", sized(1, 4097));
     run(b"3 by 0", sized(3, 0), 1);
     steady(b"4096 by 257", sized(4096, 257), 0.0, 1);
@@ -87,7 +96,7 @@ fn forces() {
 }
 
 // Number 5.
-fn faces() {
+fn faces_streamed() {
     let inwards = x_min(Face::Velocity(1.0, 0.0));
     let empty = x_max(Face::Pressure(0.0));
     let unknown = y_min(Face::MovingWall(nan(), 0.0));
@@ -96,10 +105,18 @@ fn faces() {
     stream_with_faces(b"x max Pressure 0", empty);
     stream_with_faces(b"y min MovingWall NaN, 0", unknown);
     stream_with_faces(b"y max Velocity infinite, 0", endless);
+}
+
+fn faces_elsewhere() {
+    let empty = x_max(Face::Pressure(0.0));
+    let unknown = y_min(Face::MovingWall(nan(), 0.0));
     calls::lossless(b"y min MovingWall NaN, 0", unknown);
     reverse(b"x max Pressure 0", empty);
-    step(b"y max Velocity infinite, 0", endless);
-    run(b"x min Velocity 1, 0", inwards, 1);
+    step(
+        b"y max Velocity infinite, 0",
+        y_max(Face::Velocity(infinity(), 0.0)),
+    );
+    run(b"x min Velocity 1, 0", x_min(Face::Velocity(1.0, 0.0)), 1);
     steady(b"x max Pressure 0", empty, 0.0, 1);
 }
 
@@ -153,10 +170,14 @@ fn order() {
 }
 
 pub fn all() {
-    sides();
+    sides_read();
+    sides_summed();
+    sides_carried();
+    sides_stepped();
     rates();
     forces();
-    faces();
+    faces_streamed();
+    faces_elsewhere();
     limits();
     places();
     losses();
