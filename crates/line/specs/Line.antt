@@ -7,14 +7,12 @@ use Prim.Native.Nat.{ℕ, _+_, _*_, _-_}
 use Prim.Native.Char.{code}
 use lib.Dec.{eqb, leb}
 use lib.ListN.{length, getD}
-use Rattle.number.specs.Number.{c0}
-use Rattle.cell.specs.declared.Collision.the-variants.{Bgk}
 use Rattle.settings.specs.declared.Face.{Face}
 use Rattle.settings.specs.declared.Face.the-variants.{Periodic, NoSlip, Symmetry}
 use Rattle.settings.specs.declared.Settings.{Settings}
 use Rattle.lossless.specs.declared.Answer.{Answer}
 use Rattle.lossless.specs.declared.Answer.the-variants.{Refused, Lossless, Lossy}
-use Rattle.lossless.specs.Lossless.{losslessOf}
+use Rattle.lossless.specs.Lossless.{faced, losslessOf}
 use Rattle.line.specs.Text.{bytes, decimal}
 
 -- ---- the form of a line: four letters and two sides, one space before each side
@@ -78,20 +76,9 @@ numberAfter n (b ∷ rest) = numberAfter (n * 10 + (b - code "0")) rest
 abbrev pub decimalOf : List ℕ → ℕ
 decimalOf bs = numberAfter 0 bs
 
--- x min, x max, y min, y max, then the sides. The question does not look at viscosity, force and collision
+-- x min, x max, y min, y max, then the sides
 abbrev pub study : ℕ → ℕ → ℕ → ℕ → ℕ → ℕ → Settings
-study a b c d nx ny = record {
-  nx = nx;
-  ny = ny;
-  nu = c0;
-  fx = c0;
-  fy = c0;
-  collision = Bgk;
-  «x_min» = faceOfLetter a;
-  «x_max» = faceOfLetter b;
-  «y_min» = faceOfLetter c;
-  «y_max» = faceOfLetter d;
-}
+study a b c d nx ny = faced nx ny (faceOfLetter a) (faceOfLetter b) (faceOfLetter c) (faceOfLetter d)
 
 unfoldable pub asked : List ℕ → Settings
 asked line =

@@ -5,6 +5,8 @@ use mathlib.Core.Bool.{Bool, not, cond, _&&_}
 use mathlib.Core.List.{List, [], _∷_}
 use Prim.Native.Nat.{ℕ, _-_, _*_, _^_, _<_}
 use lib.ListN.{length, getD}
+use Rattle.number.specs.Number.{c0}
+use Rattle.cell.specs.declared.Collision.the-variants.{Bgk}
 use Rattle.grid.specs.Grid.{Field, fieldOf, bufferOf}
 use Rattle.settings.specs.declared.Face.{Face}
 use Rattle.settings.specs.declared.Settings.{Settings}
@@ -17,6 +19,21 @@ use Rattle.lossless.specs.declared.Answer.{Answer}
 use Rattle.lossless.specs.declared.Answer.the-variants as The
 
 -- ---- THE QUESTION: no two different post-collision buffers give the same next buffer
+
+-- settings of nx by ny with these faces: x min, x max, y min, y max. The question looks at nothing else
+abbrev pub faced : ℕ → ℕ → Face → Face → Face → Face → Settings
+faced nx ny a b c d = record {
+  nx = nx;
+  ny = ny;
+  nu = c0;
+  fx = c0;
+  fy = c0;
+  collision = Bgk;
+  «x_min» = a;
+  «x_max» = b;
+  «y_min» = c;
+  «y_max» = d;
+}
 
 -- a lent buffer: nine entries a cell, 64 bits an entry
 pub record Buffer (nx ny : ℕ) (b : List ℕ) : Type 0 where

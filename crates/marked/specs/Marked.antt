@@ -8,29 +8,12 @@ use Rattle.number.specs.Number.{valueOf, patternOf, c0, c½, c1, c2}
 use Rattle.number.specs.Nine.{at, nine}
 use Rattle.grid.specs.Grid.{Field, index}
 use Rattle.cell.specs.Cell.{readMoments, inverseOf, noSource, bgkRates, trtRates, bgk, trt}
-use Rattle.cell.specs.declared.Collision.the-variants.{Bgk}
-use Rattle.settings.specs.declared.Face.{Face}
 use Rattle.settings.specs.declared.Face.the-variants.{Periodic, NoSlip, Symmetry}
 use Rattle.settings.specs.declared.Settings.{Settings}
 use Rattle.streaming.specs.Streaming.{next}
-use Rattle.lossless.specs.Lossless.{losslessOf, valuesOf}
+use Rattle.lossless.specs.Lossless.{faced, losslessOf, valuesOf}
 
 -- ---- grids
-
--- a grid of nx by ny with these faces: x min, x max, y min, y max
-abbrev pub grid : ℕ → ℕ → Face → Face → Face → Face → Settings
-grid nx ny a b c d = record {
-  nx = nx;
-  ny = ny;
-  nu = c0;
-  fx = c0;
-  fy = c0;
-  collision = Bgk;
-  «x_min» = a;
-  «x_max» = b;
-  «y_min» = c;
-  «y_max» = d;
-}
 
 -- the post-collision field of 3 by 2 whose entries are their indices
 abbrev pub numbered : Field
@@ -73,24 +56,24 @@ given is said = record { given = given; said = said }
 unfoldable pub table : List Case
 table =
     -- C1 all periodic: entry (2,1,5), index 35, goes to (0,0,5), index 30
-    (let s = grid 3 2 Periodic Periodic Periodic Periodic in
+    (let s = faced 3 2 Periodic Periodic Periodic Periodic in
     (arrives s 0 0 5 ∷ numbered 2 1 5 ∷ numbered 0 0 5 ∷ []) is (35 ∷ 35 ∷ 30 ∷ []))
     -- C2 all NoSlip: it goes to (2,1,7), index 47
-    ∷ (let s = grid 3 2 NoSlip NoSlip NoSlip NoSlip in
+    ∷ (let s = faced 3 2 NoSlip NoSlip NoSlip NoSlip in
     (arrives s 2 1 7 ∷ numbered 2 1 7 ∷ []) is (35 ∷ 47 ∷ []))
     -- C3 x Symmetry, y periodic: it goes to (2,1,6), index 41
-    ∷ (let s = grid 3 2 Symmetry Symmetry Periodic Periodic in
+    ∷ (let s = faced 3 2 Symmetry Symmetry Periodic Periodic in
     (arrives s 2 1 6 ∷ numbered 2 1 6 ∷ []) is (35 ∷ 41 ∷ []))
     -- C4 x Symmetry, y NoSlip: lossy at (2,0,5), index 32. Entry (0,0,7) is copied to both (0,0,5) and (0,0,8)
-    ∷ (let s = grid 3 2 Symmetry Symmetry NoSlip NoSlip in
+    ∷ (let s = faced 3 2 Symmetry Symmetry NoSlip NoSlip in
     (question s ++ (numbered 2 0 5 ∷ arrives s 0 0 5 ∷ arrives s 0 0 8 ∷ []))
     is (0 ∷ 2 ∷ 0 ∷ 5 ∷ 32 ∷ numbered 0 0 7 ∷ numbered 0 0 7 ∷ []))
     -- C5 x NoSlip, y Symmetry: lossless
-    ∷ question (grid 3 2 NoSlip NoSlip Symmetry Symmetry) is (1 ∷ 0 ∷ 0 ∷ 0 ∷ [])
+    ∷ question (faced 3 2 NoSlip NoSlip Symmetry Symmetry) is (1 ∷ 0 ∷ 0 ∷ 0 ∷ [])
     -- C6 as C4 on 3 by 1: lossless
-    ∷ question (grid 3 1 Symmetry Symmetry NoSlip NoSlip) is (1 ∷ 0 ∷ 0 ∷ 0 ∷ [])
+    ∷ question (faced 3 1 Symmetry Symmetry NoSlip NoSlip) is (1 ∷ 0 ∷ 0 ∷ 0 ∷ [])
     -- C7 x min NoSlip, x max Periodic, y Periodic: lossy at (2,0,1), index 8
-    ∷ (question (grid 3 2 NoSlip Periodic Periodic Periodic) ++ (numbered 2 0 1 ∷ [])) is (0 ∷ 2 ∷ 0 ∷ 1 ∷ 8 ∷ [])
+    ∷ (question (faced 3 2 NoSlip Periodic Periodic Periodic) ++ (numbered 2 0 1 ∷ [])) is (0 ∷ 2 ∷ 0 ∷ 1 ∷ 8 ∷ [])
     -- C8 only population 1 is 1.0, no force: ρ 1, velocity (1, 0)
     ∷ (let m = readMoments (only 1 c1) c0 c0 in
     patterns (m .density ∷ m .ux ∷ m .uy ∷ []) is patterns (c1 ∷ c1 ∷ c0 ∷ []))
