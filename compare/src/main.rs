@@ -3,6 +3,7 @@
 mod call;
 mod case;
 mod comparison;
+mod differences;
 mod expected;
 mod made;
 mod random;
@@ -20,13 +21,15 @@ use std::time::{Duration, Instant};
 const HELP: &str = "\
 compare/run [SOURCE] [--cases N] [--seed N] [--quick] [--only PLACE]
 compare/run [SOURCE] --studies
+compare/run [SOURCE] --differences
 
 Compares the proved library with the Rust of SOURCE (../shared/docs/src by default), through the C interface, on N made-up cases
 (1,000,000; --quick: 100,000). Each case is one call: its number, its answers and every entry of every lent buffer are compared,
 and so are refused calls, by the table of the rules. --only compares one case of the list that the seed starts, and shows it.
 The first difference that is not listed ends it, with the smallest case found that still differs, and exit status 1.
 --studies runs each study of the repository for 20 steps instead, prints the fingerprint that the Rust gives it, and ends with
-status 1 where the library gives another.";
+status 1 where the library gives another. --differences asks both what docs/DIFFERENCES.md records, and ends with status 1 where
+either answers otherwise.";
 
 /// What to compare.
 struct Plan {
@@ -46,8 +49,10 @@ struct Tally {
 
 fn main() -> ExitCode {
     let words: Vec<String> = env::args().skip(1).collect();
-    if words == ["--studies"] {
-        return studies::compare();
+    match words.iter().map(String::as_str).collect::<Vec<_>>()[..] {
+        ["--studies"] => return studies::compare(),
+        ["--differences"] => return differences::show(),
+        _ => (),
     }
     let Some(plan) = plan(&words) else {
         println!("{HELP}");

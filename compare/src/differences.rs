@@ -1,0 +1,161 @@
+//! The recorded differences: each row of docs/DIFFERENCES.md that has an input, asked of the Rust and of the library.
+
+use brothwagon::ffi::{self, Face, Settings};
+use source::{Solver, solver};
+use std::fmt::Debug;
+use std::panic::{self, AssertUnwindSafe, catch_unwind};
+use std::process::ExitCode;
+
+/// A row: what is asked, what both must answer, and what both do answer.
+struct Row {
+    asked: &'static str,
+    rust: (&'static str, String),
+    port: (&'static str, String),
+}
+
+const NAN: f64 = f64::NAN;
+const MINUS_INFINITY: f64 = f64::NEG_INFINITY;
+
+/// Prints what both answer; fails where either answers anything but what is recorded.
+pub fn show() -> ExitCode {
+    // A panic of the Rust is an answer here.
+    panic::set_hook(Box::new(|_| ()));
+    let rows: Vec<Row> = [lookups(), sums(), steady_runs(), places(), refusals()].into_iter().flatten().collect();
+    let mut wrong = 0;
+    for row in &rows {
+        println!("{}\n  the Rust: {}\n  the port: {}", row.asked, row.rust.1, row.port.1);
+        wrong += usize::from(row.rust.0 != row.rust.1 || row.port.0 != row.port.1);
+    }
+    println!("{} recorded differences, {wrong} not as recorded", rows.len());
+    if wrong == 0 { ExitCode::SUCCESS } else { ExitCode::FAILURE }
+}
+
+fn row(asked: &'static str, rust: (&'static str, String), port: (&'static str, String)) -> Row {
+    Row { asked, rust, port }
+}
+
+/// What the Rust answers, or that it panics.
+fn answers<T: Debug>(ask: impl FnOnce() -> T) -> String {
+    catch_unwind(AssertUnwindSafe(ask)).map_or_else(|_| "panics".to_string(), |answer| format!("{answer:?}"))
+}
+
+fn goes_on(act: impl FnOnce()) -> String {
+    catch_unwind(AssertUnwindSafe(act)).map_or("panics", |()| "goes on").to_string()
+}
+
+fn number(number: u32) -> String {
+    format!("number {number}")
+}
+
+/// Settings of nx by ny, periodic, BGK.
+fn settings(nx: u64, ny: u64) -> Settings {
+    Settings { nx, ny, nu: 0.1, ..Settings::default() }
+}
+
+fn on(settings: &Settings, f: &[f64]) -> Box<dyn Solver> {
+    solver(settings, None, f.to_vec(), vec![0.0; f.len()])
+}
+
+fn only(population: f64) -> [f64; 9] {
+    [population, 0.0, 0.0, 0.0, 0.0, 0.0, 0.0, 0.0, 0.0]
+}
+
+fn lookups() -> Vec<Row> {
+    let (refused, direction) = ffi::dir_index(2, 0);
+    vec![row(
+        "dir_index(2, 0)",
+        ("panics", answers(|| source::dir_index(2, 0))),
+        ("number 11, 0", format!("number {refused}, {direction}")),
+    )]
+}
+
+fn sums() -> Vec<Row> {
+    let one = settings(1, 1);
+    let f = [-0.0; 9];
+    let wall = Settings { y_max: Face { kind: 2, a: 0.1, b: 0.0 }, ..one };
+    let mut rust = solver(&wall, None, vec![0.0; 9], f.to_vec());
+    rust.stream_with_faces();
+    let mut port = [0.0; 9];
+    ffi::stream_with_faces(&wall, &f, &mut port);
+    let three = |f: &[f64]| format!("{:?} {:?} {:?}", f[4], f[7], f[8]);
+    vec![
+        row(
+            "density, 1 by 1, nine populations -0.0",
+            ("-0.0", answers(|| on(&one, &f).density(0, 0))),
+            ("0.0", format!("{:?}", ffi::density(&one, &f, 0, 0).1)),
+        ),
+        row(
+            "total_mass, the same",
+            ("-0.0", answers(|| on(&one, &f).total_mass())),
+            ("0.0", format!("{:?}", ffi::total_mass(&one, &f).1)),
+        ),
+        row(
+            "streaming, 1 by 1, nine post-collision entries -0.0, y max MovingWall(0.1, 0): entries 4, 7, 8",
+            ("-0.0 0.0 -0.0", three(rust.f())),
+            ("0.0 -0.0 0.0", three(&port)),
+        ),
+    ]
+}
+
+fn steady_runs() -> Vec<Row> {
+    let steady = |population| {
+        let (mut f, mut post, mut u) = (only(population), [0.0; 9], [0.0; 2]);
+        let (refused, [_, steps, _]) = ffi::run_to_steady_state(&settings(1, 1), 1e-9, 5, 1, &mut f, &mut post, &mut u);
+        format!("number {refused} after {steps} steps")
+    };
+    let rust = |population| answers(|| on(&settings(1, 1), &only(population)).run_to_steady_state(1e-9, 5, 1));
+    vec![
+        row("steady run, 1 by 1, population 0 NaN", ("(1, 0.0)", rust(NAN)), ("number 9 after 0 steps", steady(NAN))),
+        row(
+            "steady run, 1 by 1, population 0 minus infinity",
+            ("(1, 0.0)", rust(MINUS_INFINITY)),
+            ("number 9 after 1 steps", steady(MINUS_INFINITY)),
+        ),
+    ]
+}
+
+fn places() -> Vec<Row> {
+    let (one, two) = (settings(1, 1), settings(2, 2));
+    let f: Vec<f64> = (0..36).map(|at| if at % 4 == 2 { 1.0 } else { 0.0 }).collect();
+    vec![
+        row(
+            "density(2, 0), 2 by 2, where the cell (0, 1) alone has nine times 1",
+            ("9.0", answers(|| on(&two, &f).density(2, 0))),
+            ("number 6", number(ffi::density(&two, &f, 2, 0).0)),
+        ),
+        row(
+            "density(1, 0), 1 by 1",
+            ("panics", answers(|| on(&one, &[0.0; 9]).density(1, 0))),
+            ("number 6", number(ffi::density(&one, &[0.0; 9], 1, 0).0)),
+        ),
+    ]
+}
+
+/// A call of the Rust that goes on or panics, and the port's number.
+fn refused(asked: &'static str, s: Settings, rust: &'static str, steps: u64, port: &'static str) -> Row {
+    let entries = 9 * (s.nx * s.ny) as usize;
+    let (mut f, mut post) = (vec![0.1; entries], vec![0.1; entries]);
+    let by_rust = goes_on(|| on(&s, &vec![0.1; entries]).run(steps as usize));
+    row(asked, (rust, by_rust), (port, number(ffi::run(&s, steps, &mut f, &mut post))))
+}
+
+fn refusals() -> Vec<Row> {
+    let (one, wall) = (settings(1, 1), Face { kind: 1, ..Face::default() });
+    let closed = Settings { x_min: wall, x_max: wall, y_min: wall, y_max: wall, ..settings(0, 1) };
+    let empty = Face { kind: 5, a: 0.0, b: 0.0 };
+    let (mut f, mut post, mut u) = ([0.1; 9], [0.1; 9], [0.0; 2]);
+    let (by_nan, _) = ffi::run_to_steady_state(&one, NAN, 1, 1, &mut f, &mut post, &mut u);
+    vec![
+        refused("a step, 0 by 1, closed box", closed, "panics", 1, "number 1"),
+        refused("a step, 4097 by 1", settings(4097, 1), "goes on", 1, "number 1"),
+        refused("a step, viscosity -1", Settings { nu: -1.0, ..one }, "goes on", 1, "number 3"),
+        refused("a step, force NaN", Settings { fx: NAN, ..one }, "goes on", 1, "number 4"),
+        refused("a step, x min Pressure(0)", Settings { x_min: empty, ..one }, "goes on", 1, "number 5"),
+        refused("1,000,001 steps, 1 by 1", one, "goes on", 1_000_001, "number 10"),
+        row(
+            "steady run, tolerance NaN, 1 step",
+            ("(1, 0.0)", answers(|| on(&one, &[0.1; 9]).run_to_steady_state(NAN, 1, 1))),
+            ("number 10", number(by_nan)),
+        ),
+    ]
+}
