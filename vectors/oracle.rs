@@ -4,10 +4,12 @@
 mod boundary;
 mod collision;
 mod d2q9;
+mod special;
 
 use boundary::{Boundaries, Boundary, Side};
 use collision::CollisionModel;
 use d2q9::{E, LatticeBoltzmann2D};
+use special::SPECIAL;
 
 /// Marsaglia's xorshift: the made-up numbers.
 struct Made(u64);
@@ -17,26 +19,6 @@ fn shifted(x: u64) -> u64 {
     let b = a ^ (a >> 7);
     b ^ (b << 17)
 }
-
-/// NaNs with payloads, infinities, zeros, subnormals, huge and tiny numbers, and some plain ones.
-const SPECIAL: [u64; 16] = [
-    0x7ff8_0000_0000_0000,
-    0xfff8_0000_dead_beef,
-    0x7ff0_0000_0000_0001,
-    0x7ff0_0000_0000_0000,
-    0xfff0_0000_0000_0000,
-    0x0000_0000_0000_0000,
-    0x8000_0000_0000_0000,
-    0x0000_0000_0000_0001,
-    0x800f_ffff_ffff_ffff,
-    0x7fef_ffff_ffff_ffff,
-    0x3d71_9799_812d_ea11,
-    0x3ff0_0000_0000_0000,
-    0xbff0_0000_0000_0000,
-    0x3fb9_9999_9999_999a,
-    0x4008_0000_0000_0000,
-    0xbfe5_5555_5555_5555,
-];
 
 impl Made {
     fn next(&mut self) -> u64 {

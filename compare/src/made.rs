@@ -1,26 +1,12 @@
 //! Made-up numbers, the same from the same seed on every machine.
 
-/// NaNs with payloads, infinities, zeros, subnormals, the density floor, huge and tiny numbers, and some plain ones.
-const SPECIAL: [u64; 18] = [
-    0x7ff8_0000_0000_0000,
-    0xfff8_0000_dead_beef,
-    0x7ff0_0000_0000_0001,
-    0x7ff0_0000_0000_0000,
-    0xfff0_0000_0000_0000,
-    0x0000_0000_0000_0000,
-    0x8000_0000_0000_0000,
-    0x0000_0000_0000_0001,
-    0x800f_ffff_ffff_ffff,
-    0x7fef_ffff_ffff_ffff,
-    0xffe0_0000_0000_0000,
-    0x3d71_9799_812d_ea11,
-    0xbd71_9799_812d_ea11,
-    0x3ff0_0000_0000_0000,
-    0xbff0_0000_0000_0000,
-    0x3fb9_9999_9999_999a,
-    0x4008_0000_0000_0000,
-    0xbfe5_5555_5555_5555,
-];
+#[path = "../../vectors/special.rs"]
+mod special;
+
+use special::SPECIAL;
+
+/// The density floor below 0, and a large number below 0.
+const BELOW: [u64; 2] = [0xbd71_9799_812d_ea11, 0xffe0_0000_0000_0000];
 
 /// Steele, Lea and Flood's SplitMix64.
 pub struct Made(u64);
@@ -60,7 +46,8 @@ impl Made {
     }
 
     pub fn special(&mut self) -> f64 {
-        f64::from_bits(self.pick(&SPECIAL))
+        let at = self.below((SPECIAL.len() + BELOW.len()) as u64) as usize;
+        f64::from_bits(SPECIAL.get(at).copied().unwrap_or_else(|| BELOW[at - SPECIAL.len()]))
     }
 
     /// A number near the top of the range, of either sign.
