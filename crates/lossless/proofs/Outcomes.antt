@@ -14,7 +14,8 @@ use Rattle.settings.specs.Refusals.{refusal, lossless, reverse}
 use Rattle.settings.specs.Outcome.{Written}
 use Rattle.settings.proofs.Laws.{known}
 use Rattle.settings.proofs.Outcome.{answered, refused}
-use Rattle.streaming.specs.Streaming.{nextBuffer, carried}
+use Rattle.streaming.specs.Streaming.{nextBuffer}
+use Rattle.streaming.specs.Turned.{carried}
 use Rattle.lossless.specs.Lossless.{reverseBuffer, lowest, lossyAt, numberOf, losslessOf, Says, reversedOf}
 use Rattle.lossless.specs.declared.Answer.the-variants as The
 use Rattle.lossless.proofs.Backward.{reverse-gives, reverse-only, reverse-is}

@@ -12,7 +12,8 @@ use Rattle.settings.specs.Refusals as Call
 use Rattle.settings.specs.Refusals.{refusal}
 use Rattle.settings.specs.Outcome.{answer}
 use Rattle.settings.proofs.Laws.{known}
-use Rattle.streaming.specs.Streaming.{nextBuffer, carried}
+use Rattle.streaming.specs.Streaming.{nextBuffer}
+use Rattle.streaming.specs.Turned.{carried}
 use Rattle.streaming.proofs.Carried.{carried-forward}
 use Rattle.runs.specs.Passes.{Ready}
 use Rattle.runs.specs.Steps.{collidedBuffer, State, oneStep, steps, Stepped, after}

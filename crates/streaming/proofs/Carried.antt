@@ -11,10 +11,11 @@ use Rattle.grid.proofs.Fields.{same-refl, same-trans, buffer-length, field-of-b
 use Rattle.settings.specs.declared.Settings.{Settings}
 use Rattle.settings.specs.Tests.{drives, driven}
 use Rattle.settings.proofs.Laws.{or-left, or-right}
-use Rattle.streaming.specs.Steps.{facing, turned, streamed, seen}
+use Rattle.streaming.specs.Steps.{streamed}
 use Rattle.streaming.specs.Rows.{Lent, Became}
 use Rattle.streaming.specs.Faces.{min, max, face}
-use Rattle.streaming.specs.Streaming.{bounded, next, nextBuffer, carried}
+use Rattle.streaming.specs.Streaming.{bounded, next, nextBuffer}
+use Rattle.streaming.specs.Turned.{facing, turned, seen, carried}
 use Rattle.streaming.proofs.Turned.{facing-small, facing-twice}
 use Rattle.streaming.proofs.Faces.{face-same}
 

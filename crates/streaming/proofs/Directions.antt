@@ -12,7 +12,8 @@ use Rattle.lattice.specs.Lattice.{Axis, X, Y, directions}
 use Rattle.lattice.specs.Lookup.{axisOf, isRow, lookup}
 use Rattle.streaming.specs.declared.Names.{Names}
 use Rattle.streaming.specs.declared.Planes.{Planes}
-use Rattle.streaming.specs.Steps.{part, facing}
+use Rattle.streaming.specs.Steps.{part}
+use Rattle.streaming.specs.Turned.{facing}
 use Rattle.streaming.specs.Faces.{Side, min, max, incoming, names}
 use Rattle.streaming.specs.Lines.{sideOf, planesOf, Small, Apart, Sound, Other}
 use Rattle.streaming.proofs.Turned.{facing-small, facing-twice}

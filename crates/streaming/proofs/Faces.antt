@@ -19,7 +19,8 @@ use Rattle.settings.specs.declared.Face.{Face}
 use Rattle.settings.specs.declared.Face.the-variants.{Periodic, NoSlip, MovingWall, Symmetry, Velocity, Pressure}
 use Rattle.streaming.specs.declared.Names.{Names}
 use Rattle.streaming.specs.declared.Entries.{Entries}
-use Rattle.streaming.specs.Steps.{part, facing, seen}
+use Rattle.streaming.specs.Steps.{part}
+use Rattle.streaming.specs.Turned.{facing, seen}
 use Rattle.streaming.specs.Rows.{Became}
 use Rattle.streaming.specs.Faces.{Side, min, max, sizeOf, coordOf, onFace, incoming, fed, cellAt, moving, pushed, walled, names, zouHeAt, takes, face}
 use Rattle.streaming.specs.Lines.{lineOf, spot, planesOf, entriesOf, alone, Along}

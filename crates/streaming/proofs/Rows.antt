@@ -12,7 +12,8 @@ use Rattle.grid.specs.Grid.{fieldOf}
 use Rattle.grid.specs.Writes.{Wrote}
 use Rattle.grid.proofs.Radix.{low, high, within, cell-in}
 use Rattle.grid.proofs.Writes.{join, same-values, to-length}
-use Rattle.streaming.specs.Steps.{part, against, far, turn, facing, seen, streamed}
+use Rattle.streaming.specs.Steps.{part, against, far, turn, streamed}
+use Rattle.streaming.specs.Turned.{facing, seen}
 use Rattle.streaming.specs.Rows.{Became, turnedPlane}
 use Rattle.streaming.proofs.Ring.{before-seam, after-seam}
 use Rattle.streaming.proofs.Turned.{facing-small, facing-twice}

@@ -13,7 +13,8 @@ use Rattle.settings.specs.declared.Face.the-variants.{Periodic, NoSlip, MovingW
 use Rattle.settings.specs.declared.Settings.{Settings}
 use Rattle.settings.specs.Tests.{drives, driven, isPeriodic, isSymmetry}
 use Rattle.settings.proofs.Laws.{or-left, or-right}
-use Rattle.streaming.specs.Steps.{Step, stay, up, down, part, against, moved, streamed, turned}
+use Rattle.streaming.specs.Steps.{Step, stay, up, down, part, against, moved, streamed}
+use Rattle.streaming.specs.Turned.{turned}
 use Rattle.streaming.specs.Faces.{Side, min, max, incoming, fed, takes, face}
 use Rattle.streaming.specs.Streaming.{next}
 use Rattle.streaming.specs.Source.{Entry, entry, On, held, opposite, faceOf, enters, leaves, turnedBack, came, goes, source, target}

@@ -5,7 +5,7 @@ use mathlib.Core.Bool.{Bool, true, false}
 use Prim.Native.Nat.{ℕ, _<_}
 use lib.Dec.{T}
 use Rattle.lattice.proofs.Tables.{opposite-twice, opposite-small}
-use Rattle.streaming.specs.Steps.{facing}
+use Rattle.streaming.specs.Turned.{facing}
 
 pub facing-small : (back : Bool) (i : ℕ) → i < 9 → facing back i < 9
 facing-small true i h = opposite-small i h

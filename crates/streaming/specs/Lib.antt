@@ -1,6 +1,7 @@
 pub mod Steps
 pub mod Faces
 pub mod Streaming
+pub mod Turned
 pub mod Source
 pub mod Rows
 pub mod Lines

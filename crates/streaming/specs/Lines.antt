@@ -8,7 +8,7 @@ use lib.ListN.{length, getD}
 use lib.Ieee.{Float}
 use Rattle.lattice.specs.Lattice.{Axis, X, Y}
 use Rattle.grid.specs.Grid.{Field, mostCells}
-use Rattle.streaming.specs.Steps.{facing}
+use Rattle.streaming.specs.Turned.{facing}
 use Rattle.streaming.specs.Faces.{Side, min, max, normal, tangent, along, byVelocity, byPressure}
 use Rattle.streaming.specs.declared.Frame.{Frame}
 use Rattle.streaming.specs.declared.Names.{Names}

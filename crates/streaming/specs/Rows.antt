@@ -6,7 +6,8 @@ use mathlib.Core.List.{List}
 use Prim.Native.Nat.{ℕ, _+_, _*_, _/_, _%_}
 use lib.ListN.{length, getD}
 use Rattle.grid.specs.Grid.{Grid, Field, Same}
-use Rattle.streaming.specs.Steps.{turn, seen}
+use Rattle.streaming.specs.Steps.{turn}
+use Rattle.streaming.specs.Turned.{seen}
 
 -- a buffer to read and a buffer to write, both of the grid's size
 pub record Lent (nx ny : ℕ) (src dst : List ℕ) : Type 0 where

@@ -1,11 +1,9 @@
 -- Steps along the axes of a grid, and streaming, which wraps on both.
 -- Assumes nothing.
-use mathlib.Core.Bool.{Bool, cond}
-use mathlib.Core.List.{List}
 use Prim.Native.Nat.{ℕ, zero, suc, _+_, _-_, _%_}
 use lib.IntN.{ℤ, pos, negsuc}
-use Rattle.lattice.specs.Lattice.{Axis, X, Y, E, OPP}
-use Rattle.grid.specs.Grid.{Field, fieldOf}
+use Rattle.lattice.specs.Lattice.{Axis, X, Y, E}
+use Rattle.grid.specs.Grid.{Field}
 
 -- a component of a direction as a step along its axis: 0, +1 or -1
 pub data Step : Type 0 where
@@ -43,15 +41,3 @@ moved e n k = turn n (far e n) k
 -- STREAMING: what stands at (x, y) came from (x - ex, y - ey), wrapped on both axes
 unfoldable pub streamed : ℕ → ℕ → Field → Field
 streamed nx ny p x y i = p (moved (against (part X i)) nx x) (moved (against (part Y i)) ny y) i
-
--- ---- the travel turned round: opposite directions change places
-
-abbrev pub facing : Bool → ℕ → ℕ
-facing back i = cond back (OPP i) i
-
-abbrev pub turned : Bool → Field → Field
-turned back p x y i = p x y (facing back i)
-
--- the field that a buffer holds, seen so
-abbrev pub seen : Bool → ℕ → ℕ → List ℕ → Field
-seen back nx ny b = turned back (fieldOf nx ny b)

@@ -1,6 +1,5 @@
 -- Streaming with faces: the rule, and the outcome of the operation.
 -- Assumes nothing.
-use mathlib.Core.Bool.{Bool}
 use mathlib.Core.List.{List}
 use Prim.Native.Nat.{ℕ}
 use lib.ListN.{length}
@@ -9,7 +8,7 @@ use Rattle.grid.specs.Grid.{Field, fieldOf, bufferOf}
 use Rattle.settings.specs.declared.Settings.{Settings}
 use Rattle.settings.specs.Refusals.{refusal, streamWithFaces}
 use Rattle.settings.specs.Outcome.{Written, written}
-use Rattle.streaming.specs.Steps.{streamed, turned, seen}
+use Rattle.streaming.specs.Steps.{streamed}
 use Rattle.streaming.specs.Faces.{min, max, face}
 
 -- the faces in their order, from the post-collision field and the field before them: a later face writes over an earlier one
@@ -29,14 +28,6 @@ next s post = bounded s post (streamed (s .nx) (s .ny) post)
 -- the next population buffer
 unfoldable pub nextBuffer : Settings → List ℕ → List ℕ
 nextBuffer s post = bufferOf (s .nx) (s .ny) (next s (fieldOf (s .nx) (s .ny) post))
-
--- what the code carries: the next population buffer, and with the travel turned round the same of the field with opposite
--- directions in each other's place, put back
-unfoldable pub carried : Bool → Settings → List ℕ → List ℕ
-carried back s b =
-    let nx = s .nx in
-    let ny = s .ny in
-    bufferOf nx ny (turned back (next s (seen back nx ny b)))
 
 -- the operation's outcome: the number, and the next population buffer; refused, the population buffer as it was
 abbrev pub streamedWithFaces : Settings → List ℕ → List ℕ → Written

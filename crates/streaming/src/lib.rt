@@ -16,21 +16,22 @@ ghost use Rattle.grid.specs.Writes.{Wrote};
 ghost use Rattle.cell.specs.Cell.{alongAt};
 ghost use Rattle.settings.specs.Outcome.{Written};
 ghost use Rattle.settings.specs.Tests.{drives, driven};
-ghost use Rattle.streaming.specs.Steps as Steps;
-ghost use Rattle.streaming.specs.Steps.{part, against, far, turn, streamed, seen};
+ghost use Rattle.streaming.specs.Turned as Turned;
+ghost use Rattle.streaming.specs.Steps.{part, against, far, turn, streamed};
 ghost use Rattle.streaming.specs.Rows.{Lent, Became, turnedPlane};
 ghost use Rattle.streaming.specs.Faces as Faces;
 ghost use Rattle.streaming.specs.Faces.{moving, pushed, walled, known, zouHe, zouHeAt};
 ghost use Rattle.streaming.specs.Lines as Lines;
 ghost use Rattle.streaming.specs.Lines.{sideOf, frameOf, lineOf, spot, Inside, planesOf, entriesOf, entriesAt, alone, Small, Apart, Sound, Changed, Along, velocityOf};
-ghost use Rattle.streaming.specs.Streaming.{bounded, carried, streamedWithFaces};
+ghost use Rattle.streaming.specs.Streaming.{bounded, streamedWithFaces};
+ghost use Rattle.streaming.specs.Turned.{seen, carried};
 
 // ---- streaming
 
 // The direction that stands in i's place: i itself, or where the travel is turned round, its opposite.
 fn facing(back: bool, i: usize) -> usize
     requires { ⌜ i < 9 ⌝ }
-    ensures { λ r. ⌜ (r ≡ Steps.facing back i) × (r < 9) ⌝ }
+    ensures { λ r. ⌜ (r ≡ Turned.facing back i) × (r < 9) ⌝ }
 {
     if back { lattice::opposite(i) } else { i }
 }
@@ -207,7 +208,7 @@ struct Entries {
 // The planes that they are written to.
 fn incoming(back: bool, d: Names) -> Planes
     requires { ⌜ Sound d ⌝ }
-    ensures { λ r. ⌜ (r ≡ planesOf (Steps.facing back) d) × Apart r ⌝ }
+    ensures { λ r. ⌜ (r ≡ planesOf (Turned.facing back) d) × Apart r ⌝ }
 {
     Planes {
         n: facing(back, d.n),
@@ -219,7 +220,7 @@ fn incoming(back: bool, d: Names) -> Planes
 // The planes of their opposites.
 fn opposites(back: bool, d: Names) -> Planes
     requires { ⌜ Sound d ⌝ }
-    ensures { λ r. ⌜ (r ≡ planesOf (λ i. Steps.facing back (OPP i)) d) × Small r ⌝ }
+    ensures { λ r. ⌜ (r ≡ planesOf (λ i. Turned.facing back (OPP i)) d) × Small r ⌝ }
 {
     Planes {
         n: facing(back, lattice::opposite(d.n)),
@@ -231,7 +232,7 @@ fn opposites(back: bool, d: Names) -> Planes
 // The planes of the directions mirrored along an axis.
 fn mirrors(back: bool, axis: usize, d: Names) -> Planes
     requires { ⌜ Sound d ⌝ }
-    ensures { λ r. ⌜ (r ≡ planesOf (λ i. Steps.facing back (mirror (axisOf axis) i)) d) × Small r ⌝ }
+    ensures { λ r. ⌜ (r ≡ planesOf (λ i. Turned.facing back (mirror (axisOf axis) i)) d) × Small r ⌝ }
 {
     Planes {
         n: facing(back, lattice::mirror_index(d.n, axis)),
@@ -322,7 +323,7 @@ fn push_entries(d: Names, u: f64, v: f64, n: usize, c: usize, post: &[u64]) -> E
 fn moving_wall(line: Line, n: usize, d: Names, u: f64, v: f64, post: &[u64], f: &mut [u64])
     requires { ⌜ Inside line n × Sound d ⌝ }
     requires { ⌜ (length (now post) ≡ 9 * n) × (length (now f) ≡ 9 * n) ⌝ }
-    ensures { λ _. ⌜ Along (now (f .entry)) (now (f .exit)) n line (planesOf (Steps.facing false) d) (line .count) (λ j. entriesOf (pushed u v (alone false (now (post .entry)) n (spot line j)) 0 0) d) ⌝ }
+    ensures { λ _. ⌜ Along (now (f .entry)) (now (f .exit)) n line (planesOf (Turned.facing false) d) (line .count) (λ j. entriesOf (pushed u v (alone false (now (post .entry)) n (spot line j)) 0 0) d) ⌝ }
 {
     let to = incoming(false, d);
     let mut k = 0;
@@ -347,7 +348,7 @@ fn bounce_back(
     requires { ⌜ Inside line n × Sound d ⌝ }
     requires { ⌜ (length (now post) ≡ 9 * n) × (length (now f) ≡ 9 * n) ⌝ }
     requires { ⌜ (back ≡ true → moving u v ≡ false) ⌝ }
-    ensures { λ _. ⌜ Along (now (f .entry)) (now (f .exit)) n line (planesOf (Steps.facing back) d) (line .count) (λ j. entriesOf (walled u v (alone back (now (post .entry)) n (spot line j)) 0 0) d) ⌝ }
+    ensures { λ _. ⌜ Along (now (f .entry)) (now (f .exit)) n line (planesOf (Turned.facing back) d) (line .count) (λ j. entriesOf (walled u v (alone back (now (post .entry)) n (spot line j)) 0 0) d) ⌝ }
 {
     if (u != 0.0) | (v != 0.0) {
         moving_wall(line, n, d, u, v, post, f);
@@ -360,7 +361,7 @@ fn bounce_back(
 fn specular(line: Line, n: usize, d: Names, back: bool, axis: usize, post: &[u64], f: &mut [u64])
     requires { ⌜ Inside line n × Sound d ⌝ }
     requires { ⌜ (length (now post) ≡ 9 * n) × (length (now f) ≡ 9 * n) ⌝ }
-    ensures { λ _. ⌜ Along (now (f .entry)) (now (f .exit)) n line (planesOf (Steps.facing back) d) (line .count) (λ j. entriesOf (λ i. alone back (now (post .entry)) n (spot line j) 0 0 (mirror (axisOf axis) i)) d) ⌝ }
+    ensures { λ _. ⌜ Along (now (f .entry)) (now (f .exit)) n line (planesOf (Turned.facing back) d) (line .count) (λ j. entriesOf (λ i. alone back (now (post .entry)) n (spot line j) 0 0 (mirror (axisOf axis) i)) d) ⌝ }
 {
     reflect(line, n, incoming(back, d), mirrors(back, axis, d), post, f);
 }
@@ -426,7 +427,7 @@ fn zou_he_entries(d: Names, kind: ZouHe, f: [f64; 9]) -> Entries
 // Zou-He velocity or pressure.
 fn zou_he(line: Line, n: usize, d: Names, kind: ZouHe, f: &mut [u64])
     requires { ⌜ Inside line n × Sound d × (length (now f) ≡ 9 * n) ⌝ }
-    ensures { λ _. ⌜ Along (now (f .entry)) (now (f .exit)) n line (planesOf (Steps.facing false) d) (line .count) (λ j. entriesOf (zouHeAt d (Lines.prescribed kind) (alone false (now (f .entry)) n (spot line j)) 0 0) d) ⌝ }
+    ensures { λ _. ⌜ Along (now (f .entry)) (now (f .exit)) n line (planesOf (Turned.facing false) d) (line .count) (λ j. entriesOf (zouHeAt d (Lines.prescribed kind) (alone false (now (f .entry)) n (spot line j)) 0 0) d) ⌝ }
 {
     let to = incoming(false, d);
     let mut k = 0;

@@ -2,7 +2,7 @@
 -- Assumes nothing.
 use mathlib.Core.Path.{_∙_}
 use borrow.Author.Needs.{needs}
-use Rattle.streaming.specs.Steps.{seen}
+use Rattle.streaming.specs.Turned.{seen}
 use Rattle.streaming.proofs.Carried.{still-lent, four-faces, undriven}
 use Rattle.streaming.proofs.apply_boundaries.Statement.{statement}
 use Rattle.streaming.proofs.apply_boundaries.Tie as tie

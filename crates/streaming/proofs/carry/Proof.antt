@@ -1,7 +1,7 @@
 -- `streaming::carry` meets its contract: the faces after streaming, and a buffer is told by its field.
 -- Assumes nothing.
 use borrow.Author.Needs.{needs}
-use Rattle.streaming.specs.Steps.{seen}
+use Rattle.streaming.specs.Turned.{seen}
 use Rattle.streaming.proofs.Carried.{still-lent, then-faces, is-carried}
 use Rattle.streaming.proofs.carry.Statement.{statement}
 use Rattle.streaming.proofs.carry.Tie as tie

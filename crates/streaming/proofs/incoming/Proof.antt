@@ -1,7 +1,7 @@
 -- `streaming::incoming` meets its contract: three different directions face three different ones.
 -- Assumes nothing.
 use borrow.Author.Needs.{needs}
-use Rattle.streaming.specs.Steps.{facing}
+use Rattle.streaming.specs.Turned.{facing}
 use Rattle.streaming.proofs.Directions.{planes-of, three-facing}
 use Rattle.streaming.proofs.incoming.Tie as tie
 use Rattle.streaming.proofs.incoming.Statement.{statement}

@@ -3,7 +3,7 @@
 use mathlib.Core.Path.{ap, _∙_}
 use borrow.Author.Needs.{needs}
 use Rattle.lattice.specs.Lookup.{axisOf, mirror}
-use Rattle.streaming.specs.Steps.{facing}
+use Rattle.streaming.specs.Turned.{facing}
 use Rattle.streaming.proofs.Directions.{planes-of}
 use Rattle.streaming.proofs.mirrors.Tie as tie
 use Rattle.streaming.proofs.mirrors.Statement.{statement}

@@ -3,7 +3,7 @@
 use mathlib.Core.Path.{ap, _∙_}
 use borrow.Author.Needs.{needs}
 use Rattle.lattice.specs.Lattice.{OPP}
-use Rattle.streaming.specs.Steps.{facing}
+use Rattle.streaming.specs.Turned.{facing}
 use Rattle.streaming.proofs.Directions.{planes-of}
 use Rattle.streaming.proofs.opposites.Statement.{statement}
 use Rattle.streaming.proofs.opposites.Tie as tie
