@@ -1,3 +1,4 @@
 pub mod Radix
 pub mod Fields
 pub mod Writes
+pub mod Telling

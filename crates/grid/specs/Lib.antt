@@ -1,2 +1,3 @@
 pub mod Grid
 pub mod Writes
+pub mod Plain

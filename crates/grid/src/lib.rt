@@ -1,11 +1,13 @@
 // A grid's cells in a lent buffer: entry i of cell c of n stands at c + i·n, where c = x + y·nx and n = nx·ny.
 ghost use mathlib.Core.Path.{_≡_};
+ghost use mathlib.Core.Bool.{true};
 ghost use Prim.Native.Nat.{_+_, _*_, _≤_, _<_};
 ghost use lib.ListN.{length, getD, set};
 ghost use Rattle.number.specs.Number.{valueOf, patternOf};
 ghost use Rattle.number.specs.Nine.{at};
 ghost use Rattle.grid.specs.Grid.{cellOf, Holds};
 ghost use Rattle.grid.specs.Writes.{Wrote, Put};
+ghost use Rattle.grid.specs.Plain.{AllPlain, Told};
 
 // The largest side and the most cells of a grid: `mostSide` and `mostCells`.
 pub const MOST_SIDE: usize = 4096;
@@ -47,6 +49,45 @@ pub fn gather(f: &[u64], n: usize, c: usize) -> [f64; 9]
     ]
 }
 
+// Whether every entry is plain, told from their bits joined.
+pub fn all_plain(b: &[u64]) -> bool
+    ensures { λ r. ⌜ (r ≡ true → AllPlain (now (b .entry))) ⌝ }
+{
+    let mut all = 0;
+    let mut k = 0;
+    while k < b.len() {
+        all = all | b[k];
+        k += 1;
+    }
+    number::plain(all)
+}
+
+// Entry i of cell c, with no test for a NaN.
+fn get_plain(f: &[u64], n: usize, c: usize, i: usize) -> f64
+    requires { ⌜ Holds (now f) n c × (i < 9) × AllPlain (now f) ⌝ }
+    ensures { λ r. ⌜ r ≡ valueOf (getD (now (f .entry)) (c + i * n) 0) ⌝ }
+{
+    number::plain_value(f[c + i * n])
+}
+
+// The nine populations of cell c of a buffer whose entries are all plain: nine tests fewer than `gather` has.
+pub fn gather_plain(f: &[u64], n: usize, c: usize) -> [f64; 9]
+    requires { ⌜ Holds (now f) n c × AllPlain (now f) ⌝ }
+    ensures { λ r. ⌜ r ≡ cellOf (now (f .entry)) n c ⌝ }
+{
+    [
+        get_plain(f, n, c, 0),
+        get_plain(f, n, c, 1),
+        get_plain(f, n, c, 2),
+        get_plain(f, n, c, 3),
+        get_plain(f, n, c, 4),
+        get_plain(f, n, c, 5),
+        get_plain(f, n, c, 6),
+        get_plain(f, n, c, 7),
+        get_plain(f, n, c, 8),
+    ]
+}
+
 // Makes v the nine populations of cell c.
 pub fn put_back(f: &mut [u64], n: usize, c: usize, v: [f64; 9])
     requires { ⌜ Holds (now f) n c ⌝ }
@@ -63,14 +104,19 @@ pub fn put_back(f: &mut [u64], n: usize, c: usize, v: [f64; 9])
     set_f(f, n, c, 8, v[8]);
 }
 
-// Copies the n entries of src from `from` on to dst from `to` on, every bit of them.
-pub fn copy(src: &[u64], from: usize, dst: &mut [u64], to: usize, n: usize)
+// Copies the n entries of src from `from` on to dst from `to` on, every bit of them, and answers their bits joined.
+pub fn copy(src: &[u64], from: usize, dst: &mut [u64], to: usize, n: usize) -> u64
     requires { ⌜ (from + n ≤ length (now src)) × (to + n ≤ length (now dst)) ⌝ }
-    ensures { λ _. ⌜ Wrote (now (dst .entry)) (now (dst .exit)) to n (λ k. getD (now (src .entry)) (from + k) 0) ⌝ }
+    ensures wrote { λ _. ⌜ Wrote (now (dst .entry)) (now (dst .exit)) to n (λ k. getD (now (src .entry)) (from + k) 0) ⌝ }
+    ensures told { λ r. ⌜ Told r (now (dst .exit)) to n ⌝ }
 {
+    let mut all = 0;
     let mut k = 0;
     while k < n {
-        dst[to + k] = src[from + k];
+        let b = src[from + k];
+        dst[to + k] = b;
+        all = all | b;
         k += 1;
     }
+    all
 }

@@ -1,4 +1,5 @@
 pub mod Nan
+pub mod Joined
 pub mod RoundTrips
 pub mod Exact
 pub mod Nine

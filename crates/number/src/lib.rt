@@ -1,7 +1,8 @@
 // Numbers of 64 bits. A lent buffer holds patterns (u64), so that a copy keeps every bit; only arithmetic goes to f64 and back.
 ghost use mathlib.Core.Path.{_≡_};
+ghost use mathlib.Core.Bool.{true};
 ghost use lib.Ieee.{binary64, ofBits, toBits};
-ghost use Rattle.number.specs.Number.{notFinite, magnitudeOf, largerOf};
+ghost use Rattle.number.specs.Number.{plainOf, notFinite, magnitudeOf, largerOf};
 
 // The number that a pattern stands for. Every NaN's pattern is the one NaN.
 pub fn value(b: u64) -> f64
@@ -12,6 +13,21 @@ pub fn value(b: u64) -> f64
     } else {
         f64::from_bits(b)
     }
+}
+
+// Whether a pattern's magnitude is below 2, so that it is no NaN's. The bits of many patterns joined are plain only where each pattern is.
+pub fn plain(b: u64) -> bool
+    ensures { λ r. ⌜ r ≡ plainOf b ⌝ }
+{
+    b % 0x8000_0000_0000_0000 < 0x4000_0000_0000_0000
+}
+
+// The number that a plain pattern stands for, with no test for a NaN.
+pub fn plain_value(b: u64) -> f64
+    requires { ⌜ plainOf b ≡ true ⌝ }
+    ensures { λ r. ⌜ r ≡ ofBits binary64 b ⌝ }
+{
+    f64::from_bits(b)
 }
 
 // The pattern of a number. A NaN's is always the same, whichever operation made it.

@@ -12,6 +12,7 @@ ghost use lib.ListN.{length};
 ghost use Rattle.number.specs.Number.{infinity};
 ghost use Rattle.grid.specs.Grid.{Grid, Holds};
 ghost use Rattle.grid.specs.Writes.{Cells};
+ghost use Rattle.grid.specs.Plain.{AllPlain};
 ghost use Rattle.cell.specs.Cell.{forcedBy, bgkRates, trtRates, mrtRates, bgk, trt, mrt};
 ghost use Rattle.readings.specs.Readings.{velocityBuffer};
 ghost use Rattle.runs.specs.Passes.{Paired, Ready, AllReady, Seen, entryBy, takenIn, CellTaken, cellTaken};
@@ -20,52 +21,77 @@ ghost use Rattle.runs.specs.Steps.{collidedBuffer, State, oneStep, Stepp
 ghost use Rattle.runs.specs.Steady as Rules;
 ghost use Rattle.runs.specs.Steady.{badCell, badSnapshot, residualOf, checked, Checked, checkOf, ended, onward, settling, steadyOf};
 
-// ---- collision: one pass over the n cells. Kind and force are chosen once a pass, so each has a loop of its own; MRT, too large to
-// stand there twice, asks for the force cell by cell
+// ---- collision: one pass over the n cells. Kind and force are chosen once a pass, so each has a loop of its own. The four quick
+// passes read a buffer whose entries are all plain with no test for a NaN; the others test every entry, and ask for the force cell
+// by cell
 
 fn bgk_pass(n: usize, fx: f64, fy: f64, rates: BgkRates, f: &[u64], post: &mut [u64])
-    requires { ⌜ Paired n (now f) (now post) × (forcedBy fx fy ≡ false) ⌝ }
+    requires { ⌜ Paired n (now f) (now post) × (forcedBy fx fy ≡ false) × AllPlain (now f) ⌝ }
     ensures { λ _. ⌜ Cells (now (post .entry)) (now (post .exit)) n n (entryBy (bgk rates) fx fy (now (f .entry)) n) ⌝ }
 {
     let mut c = 0;
     while c < n {
-        let v = cell::bgk_cell(grid::gather(f, n, c), fx, fy, rates);
+        let v = cell::bgk_cell(grid::gather_plain(f, n, c), fx, fy, rates);
         grid::put_back(post, n, c, v);
         c += 1;
     }
 }
 
 fn bgk_pass_forced(n: usize, fx: f64, fy: f64, rates: BgkRates, f: &[u64], post: &mut [u64])
-    requires { ⌜ Paired n (now f) (now post) × (forcedBy fx fy ≡ true) ⌝ }
+    requires { ⌜ Paired n (now f) (now post) × (forcedBy fx fy ≡ true) × AllPlain (now f) ⌝ }
     ensures { λ _. ⌜ Cells (now (post .entry)) (now (post .exit)) n n (entryBy (bgk rates) fx fy (now (f .entry)) n) ⌝ }
 {
     let mut c = 0;
     while c < n {
-        let v = cell::bgk_cell_forced(grid::gather(f, n, c), fx, fy, rates);
+        let v = cell::bgk_cell_forced(grid::gather_plain(f, n, c), fx, fy, rates);
         grid::put_back(post, n, c, v);
         c += 1;
     }
 }
 
 fn trt_pass(n: usize, fx: f64, fy: f64, rates: TrtRates, f: &[u64], post: &mut [u64])
-    requires { ⌜ Paired n (now f) (now post) × (forcedBy fx fy ≡ false) ⌝ }
+    requires { ⌜ Paired n (now f) (now post) × (forcedBy fx fy ≡ false) × AllPlain (now f) ⌝ }
     ensures { λ _. ⌜ Cells (now (post .entry)) (now (post .exit)) n n (entryBy (trt rates) fx fy (now (f .entry)) n) ⌝ }
 {
     let mut c = 0;
     while c < n {
-        let v = cell::trt_cell(grid::gather(f, n, c), fx, fy, rates);
+        let v = cell::trt_cell(grid::gather_plain(f, n, c), fx, fy, rates);
         grid::put_back(post, n, c, v);
         c += 1;
     }
 }
 
 fn trt_pass_forced(n: usize, fx: f64, fy: f64, rates: TrtRates, f: &[u64], post: &mut [u64])
-    requires { ⌜ Paired n (now f) (now post) × (forcedBy fx fy ≡ true) ⌝ }
+    requires { ⌜ Paired n (now f) (now post) × (forcedBy fx fy ≡ true) × AllPlain (now f) ⌝ }
     ensures { λ _. ⌜ Cells (now (post .entry)) (now (post .exit)) n n (entryBy (trt rates) fx fy (now (f .entry)) n) ⌝ }
 {
     let mut c = 0;
     while c < n {
-        let v = cell::trt_cell_forced(grid::gather(f, n, c), fx, fy, rates);
+        let v = cell::trt_cell_forced(grid::gather_plain(f, n, c), fx, fy, rates);
+        grid::put_back(post, n, c, v);
+        c += 1;
+    }
+}
+
+fn bgk_pass_any(n: usize, fx: f64, fy: f64, rates: BgkRates, f: &[u64], post: &mut [u64])
+    requires { ⌜ Paired n (now f) (now post) ⌝ }
+    ensures { λ _. ⌜ Cells (now (post .entry)) (now (post .exit)) n n (entryBy (bgk rates) fx fy (now (f .entry)) n) ⌝ }
+{
+    let mut c = 0;
+    while c < n {
+        let v = cell::bgk_cell_any(grid::gather(f, n, c), fx, fy, rates);
+        grid::put_back(post, n, c, v);
+        c += 1;
+    }
+}
+
+fn trt_pass_any(n: usize, fx: f64, fy: f64, rates: TrtRates, f: &[u64], post: &mut [u64])
+    requires { ⌜ Paired n (now f) (now post) ⌝ }
+    ensures { λ _. ⌜ Cells (now (post .entry)) (now (post .exit)) n n (entryBy (trt rates) fx fy (now (f .entry)) n) ⌝ }
+{
+    let mut c = 0;
+    while c < n {
+        let v = cell::trt_cell_any(grid::gather(f, n, c), fx, fy, rates);
         grid::put_back(post, n, c, v);
         c += 1;
     }
@@ -83,24 +109,37 @@ fn mrt_pass(n: usize, fx: f64, fy: f64, rates: MrtRates, f: &[u64], post: &mut [
     }
 }
 
-fn collide_bgk(n: usize, fx: f64, fy: f64, tau: f64, f: &[u64], post: &mut [u64])
-    requires { ⌜ Paired n (now f) (now post) ⌝ }
+fn collide_bgk(n: usize, fx: f64, fy: f64, tau: f64, plain: bool, f: &[u64], post: &mut [u64])
+    requires { ⌜ Paired n (now f) (now post) × (plain ≡ true → AllPlain (now f)) ⌝ }
     ensures { λ _. ⌜ Cells (now (post .entry)) (now (post .exit)) n n (entryBy (bgk (bgkRates tau)) fx fy (now (f .entry)) n) ⌝ }
 {
     let rates = cell::bgk_rates(tau);
-    if cell::forced(fx, fy) {
+    if !plain {
+        bgk_pass_any(n, fx, fy, rates, f, post);
+    } else if cell::forced(fx, fy) {
         bgk_pass_forced(n, fx, fy, rates, f, post);
     } else {
         bgk_pass(n, fx, fy, rates, f, post);
     }
 }
 
-fn collide_trt(n: usize, fx: f64, fy: f64, tau: f64, rate: f64, f: &[u64], post: &mut [u64])
-    requires { ⌜ Paired n (now f) (now post) ⌝ }
+fn collide_trt(
+    n: usize,
+    fx: f64,
+    fy: f64,
+    tau: f64,
+    rate: f64,
+    plain: bool,
+    f: &[u64],
+    post: &mut [u64],
+)
+    requires { ⌜ Paired n (now f) (now post) × (plain ≡ true → AllPlain (now f)) ⌝ }
     ensures { λ _. ⌜ Cells (now (post .entry)) (now (post .exit)) n n (entryBy (trt (trtRates tau rate)) fx fy (now (f .entry)) n) ⌝ }
 {
     let rates = cell::trt_rates(tau, rate);
-    if cell::forced(fx, fy) {
+    if !plain {
+        trt_pass_any(n, fx, fy, rates, f, post);
+    } else if cell::forced(fx, fy) {
         trt_pass_forced(n, fx, fy, rates, f, post);
     } else {
         trt_pass(n, fx, fy, rates, f, post);
@@ -114,39 +153,43 @@ fn collide_mrt(n: usize, fx: f64, fy: f64, tau: f64, f: &[u64], post: &mut [u64]
     mrt_pass(n, fx, fy, cell::mrt_rates(tau), f, post);
 }
 
-// Collides every cell of f into post.
-fn collide(s: Settings, f: &[u64], post: &mut [u64])
-    requires { ⌜ Ready s (now f) (now post) ⌝ }
+// Collides every cell of f into post; `plain` where every entry of f is known to be plain.
+fn collide(s: Settings, plain: bool, f: &[u64], post: &mut [u64])
+    requires { ⌜ Ready s (now f) (now post) × (plain ≡ true → AllPlain (now f)) ⌝ }
     ensures { λ _. ⌜ now (post .exit) ≡ collidedBuffer s (now (f .entry)) ⌝ }
 {
     let n = s.nx * s.ny;
     let tau = settings::tau(s.nu);
     let k = s.collision;
     match k {
-        Collision::Bgk => collide_bgk(n, s.fx, s.fy, tau, f, post),
+        Collision::Bgk => collide_bgk(n, s.fx, s.fy, tau, plain, f, post),
         Collision::Mrt => collide_mrt(n, s.fx, s.fy, tau, f, post),
-        Collision::Trt(rate) => collide_trt(n, s.fx, s.fy, tau, rate, f, post),
+        Collision::Trt(rate) => collide_trt(n, s.fx, s.fy, tau, rate, plain, f, post),
     }
 }
 
 // ---- steps
 
-// One step: afterwards post holds the post-collision state.
-fn advance(s: Settings, f: &mut [u64], post: &mut [u64])
-    requires { ⌜ Ready s (now f) (now post) ⌝ }
-    ensures { λ _. ⌜ _≡_ {A = State} (record { f = now (f .exit); post = now (post .exit) }) (oneStep s (record { f = now (f .entry); post = now (post .entry) })) ⌝ }
+// One step: afterwards post holds the post-collision state. `plain` where every entry of f is known to be plain; the answer is the
+// same of the new f, told from the bits that were written.
+fn advance(s: Settings, plain: bool, f: &mut [u64], post: &mut [u64]) -> bool
+    requires { ⌜ Ready s (now f) (now post) × (plain ≡ true → AllPlain (now f)) ⌝ }
+    ensures stepped { λ _. ⌜ _≡_ {A = State} (record { f = now (f .exit); post = now (post .exit) }) (oneStep s (record { f = now (f .entry); post = now (post .entry) })) ⌝ }
+    ensures told { λ r. ⌜ (r ≡ true → AllPlain (now (f .exit))) ⌝ }
 {
-    collide(s, f, post);
-    streaming::carry(s, false, post, f);
+    collide(s, plain, f, post);
+    let bits = streaming::carry(s, false, post, f);
+    number::plain(bits)
 }
 
 fn advance_by(s: Settings, steps: u64, f: &mut [u64], post: &mut [u64])
     requires { ⌜ Ready s (now f) (now post) ⌝ }
     ensures { λ _. ⌜ _≡_ {A = State} (record { f = now (f .exit); post = now (post .exit) }) (Steps.steps s steps (record { f = now (f .entry); post = now (post .entry) })) ⌝ }
 {
+    let mut plain = grid::all_plain(f);
     let mut k = 0;
     while k < steps {
-        advance(s, f, post);
+        plain = advance(s, plain, f, post);
         k += 1;
     }
 }
@@ -325,9 +368,10 @@ fn steady_steps(
     ensures { λ r. ⌜ ended r (record { f = now (f .exit); post = now (post .exit) }) (now (u .exit)) ≡ onward s tolerance every (record { f = now (f .entry); post = now (post .entry) }) «max_steps» 0 (now (u .entry)) infinity ⌝ }
 {
     let mut residual = 1.0 / 0.0;
+    let mut plain = grid::all_plain(f);
     let mut k = 0;
     while k < max_steps {
-        advance(s, f, post);
+        plain = advance(s, plain, f, post);
         k += 1;
         let found = check_after(s, tolerance, every, k, residual, f, u);
         match found {

@@ -8,11 +8,12 @@ ghost use mathlib.Core.Bool.{true, false};
 ghost use Prim.Native.Nat.{_+_, _*_, _%_, _≤_, _<_};
 ghost use lib.ListN.{length, getD, set};
 ghost use lib.Ieee.{binary64, ofInt};
-ghost use Rattle.number.specs.Number.{valueOf, patternOf, c6, _⊕_, _⊗_};
+ghost use Rattle.number.specs.Number.{valueOf, patternOf, plainOf, c6, _⊕_, _⊗_};
 ghost use Rattle.lattice.specs.Lattice.{W, OPP};
 ghost use Rattle.lattice.specs.Lookup.{axisOf, mirror};
 ghost use Rattle.grid.specs.Grid.{Grid, Holds};
 ghost use Rattle.grid.specs.Writes.{Wrote};
+ghost use Rattle.grid.specs.Plain.{AllPlain, Told, Keeps};
 ghost use Rattle.cell.specs.Cell.{alongAt};
 ghost use Rattle.settings.specs.Outcome.{Written};
 ghost use Rattle.settings.specs.Tests.{drives, driven};
@@ -37,13 +38,16 @@ fn facing(back: bool, i: usize) -> usize
 }
 
 // Copies a row of n entries, turned by s: entry k is the source's entry (k + s) mod n, so that the row is two straight copies.
-fn row(src: &[u64], from: usize, dst: &mut [u64], to: usize, n: usize, s: usize)
+// Answers their bits joined, as all that writes into a buffer here does.
+fn row(src: &[u64], from: usize, dst: &mut [u64], to: usize, n: usize, s: usize) -> u64
     requires { ⌜ (s ≤ n) × (from + n ≤ length (now src)) × (to + n ≤ length (now dst)) ⌝ }
-    ensures { λ _. ⌜ Wrote (now (dst .entry)) (now (dst .exit)) to n (λ k. getD (now (src .entry)) (from + turn n s k) 0) ⌝ }
+    ensures wrote { λ _. ⌜ Wrote (now (dst .entry)) (now (dst .exit)) to n (λ k. getD (now (src .entry)) (from + turn n s k) 0) ⌝ }
+    ensures told { λ r. ⌜ Told r (now (dst .exit)) to n ⌝ }
 {
     let m = n - s;
-    grid::copy(src, from + s, dst, to, m);
-    grid::copy(src, from, dst, to + m, s);
+    let first = grid::copy(src, from + s, dst, to, m);
+    let second = grid::copy(src, from, dst, to + m, s);
+    first | second
 }
 
 // A number below two turns around a side of n, as a place of the side.
@@ -55,17 +59,29 @@ fn wrap(n: usize, k: usize) -> usize
 }
 
 // Copies a plane of ny rows of nx entries, which starts at base in both buffers, turned by sx and sy.
-fn plane(nx: usize, ny: usize, sx: usize, sy: usize, base: usize, src: &[u64], dst: &mut [u64])
+fn plane(
+    nx: usize,
+    ny: usize,
+    sx: usize,
+    sy: usize,
+    base: usize,
+    src: &[u64],
+    dst: &mut [u64],
+) -> u64
     requires { ⌜ Grid nx ny ⌝ }
     requires { ⌜ (sx ≤ nx) × (sy ≤ ny) × (base + nx * ny ≤ length (now src)) × (base + nx * ny ≤ length (now dst)) ⌝ }
-    ensures { λ _. ⌜ Wrote (now (dst .entry)) (now (dst .exit)) base (nx * ny) (turnedPlane nx ny sx sy base (now (src .entry))) ⌝ }
+    ensures wrote { λ _. ⌜ Wrote (now (dst .entry)) (now (dst .exit)) base (nx * ny) (turnedPlane nx ny sx sy base (now (src .entry))) ⌝ }
+    ensures told { λ r. ⌜ Told r (now (dst .exit)) base (nx * ny) ⌝ }
 {
+    let mut all = 0;
     let mut y = 0;
     while y < ny {
         let from = wrap(ny, y + sy);
-        row(src, base + from * nx, dst, base + y * nx, nx, sx);
+        let bits = row(src, base + from * nx, dst, base + y * nx, nx, sx);
+        all = all | bits;
         y += 1;
     }
+    all
 }
 
 // One step of direction i back along an axis (0 for x, 1 for y), as places on around the side of n.
@@ -84,19 +100,23 @@ fn step_back(i: usize, axis: usize, n: usize) -> usize
 }
 
 // Streaming: the plane of each direction goes on by one step of it, wrapped on both axes. Turned round, it goes by its opposite's.
-fn stream(back: bool, nx: usize, ny: usize, src: &[u64], dst: &mut [u64])
+fn stream(back: bool, nx: usize, ny: usize, src: &[u64], dst: &mut [u64]) -> u64
     requires { ⌜ Lent nx ny (now src) (now dst) ⌝ }
-    ensures { λ _. ⌜ Became back nx ny (now (dst .entry)) (now (dst .exit)) (streamed nx ny (seen back nx ny (now (src .entry)))) ⌝ }
+    ensures became { λ _. ⌜ Became back nx ny (now (dst .entry)) (now (dst .exit)) (streamed nx ny (seen back nx ny (now (src .entry)))) ⌝ }
+    ensures told { λ r. ⌜ (plainOf r ≡ true → AllPlain (now (dst .exit))) ⌝ }
 {
     let n = nx * ny;
+    let mut all = 0;
     let mut j = 0;
     while j < 9 {
         let i = facing(back, j);
         let sx = step_back(i, 0, nx);
         let sy = step_back(i, 1, ny);
-        plane(nx, ny, sx, sy, j * n, src, dst);
+        let bits = plane(nx, ny, sx, sy, j * n, src, dst);
+        all = all | bits;
         j += 1;
     }
+    all
 }
 
 // ---- where a face is
@@ -254,6 +274,7 @@ fn set_entry(f: &mut [u64], n: usize, c: usize, i: usize, v: u64)
     requires { ⌜ Holds (now f) n c × (i < 9) ⌝ }
     ensures stored { λ _. ⌜ now (f .exit) ≡ set (now (f .entry)) (c + i * n) v ⌝ }
     ensures holds { λ _. ⌜ Holds (now (f .exit)) n c ⌝ }
+    ensures keeps { λ _. ⌜ Keeps v (now (f .entry)) (now (f .exit)) ⌝ }
 {
     f[c + i * n] = v;
 }
@@ -271,29 +292,35 @@ fn entries_at(b: &[u64], n: usize, c: usize, p: Planes) -> Entries
 }
 
 // Makes v the entries of cell c of n in three planes.
-fn put(f: &mut [u64], n: usize, c: usize, p: Planes, v: Entries)
+fn put(f: &mut [u64], n: usize, c: usize, p: Planes, v: Entries) -> u64
     requires { ⌜ Holds (now f) n c × Apart p ⌝ }
-    ensures { λ _. ⌜ Changed (now (f .entry)) (now (f .exit)) n c p v ⌝ }
+    ensures changed { λ _. ⌜ Changed (now (f .entry)) (now (f .exit)) n c p v ⌝ }
+    ensures keeps { λ r. ⌜ Keeps r (now (f .entry)) (now (f .exit)) ⌝ }
 {
     set_entry(f, n, c, p.n, v.n);
     set_entry(f, n, c, p.np, v.np);
     set_entry(f, n, c, p.nm, v.nm);
+    v.n | v.np | v.nm
 }
 
 // ---- the kinds of faces
 
 // Takes the entries of the planes `to` from the same cell's post-collision entries in the planes `from`.
-fn reflect(line: Line, n: usize, to: Planes, from: Planes, post: &[u64], f: &mut [u64])
+fn reflect(line: Line, n: usize, to: Planes, from: Planes, post: &[u64], f: &mut [u64]) -> u64
     requires { ⌜ Inside line n × Apart to × Small from ⌝ }
     requires { ⌜ (length (now post) ≡ 9 * n) × (length (now f) ≡ 9 * n) ⌝ }
-    ensures { λ _. ⌜ Along (now (f .entry)) (now (f .exit)) n line to (line .count) (λ j. entriesAt (now (post .entry)) n (spot line j) from) ⌝ }
+    ensures along { λ _. ⌜ Along (now (f .entry)) (now (f .exit)) n line to (line .count) (λ j. entriesAt (now (post .entry)) n (spot line j) from) ⌝ }
+    ensures keeps { λ r. ⌜ Keeps r (now (f .entry)) (now (f .exit)) ⌝ }
 {
+    let mut all = 0;
     let mut k = 0;
     while k < line.count {
         let c = line.start + k * line.stride;
-        put(f, n, c, to, entries_at(post, n, c, from));
+        let bits = put(f, n, c, to, entries_at(post, n, c, from));
+        all = all | bits;
         k += 1;
     }
+    all
 }
 
 // The opposite entry b as direction i takes it from a wall that moves: 6·W·ρw·(e·u) more.
@@ -320,18 +347,22 @@ fn push_entries(d: Names, u: f64, v: f64, n: usize, c: usize, post: &[u64]) -> E
 }
 
 // Halfway bounce-back at a wall that moves.
-fn moving_wall(line: Line, n: usize, d: Names, u: f64, v: f64, post: &[u64], f: &mut [u64])
+fn moving_wall(line: Line, n: usize, d: Names, u: f64, v: f64, post: &[u64], f: &mut [u64]) -> u64
     requires { ⌜ Inside line n × Sound d ⌝ }
     requires { ⌜ (length (now post) ≡ 9 * n) × (length (now f) ≡ 9 * n) ⌝ }
-    ensures { λ _. ⌜ Along (now (f .entry)) (now (f .exit)) n line (planesOf (Turned.facing false) d) (line .count) (λ j. entriesOf (pushed u v (alone false (now (post .entry)) n (spot line j)) 0 0) d) ⌝ }
+    ensures along { λ _. ⌜ Along (now (f .entry)) (now (f .exit)) n line (planesOf (Turned.facing false) d) (line .count) (λ j. entriesOf (pushed u v (alone false (now (post .entry)) n (spot line j)) 0 0) d) ⌝ }
+    ensures keeps { λ r. ⌜ Keeps r (now (f .entry)) (now (f .exit)) ⌝ }
 {
     let to = incoming(false, d);
+    let mut all = 0;
     let mut k = 0;
     while k < line.count {
         let c = line.start + k * line.stride;
-        put(f, n, c, to, push_entries(d, u, v, n, c, post));
+        let bits = put(f, n, c, to, push_entries(d, u, v, n, c, post));
+        all = all | bits;
         k += 1;
     }
+    all
 }
 
 // Halfway bounce-back, with wall motion unless both speeds equal 0. Only a wall at rest has a way back.
@@ -344,26 +375,36 @@ fn bounce_back(
     v: f64,
     post: &[u64],
     f: &mut [u64],
-)
+) -> u64
     requires { ⌜ Inside line n × Sound d ⌝ }
     requires { ⌜ (length (now post) ≡ 9 * n) × (length (now f) ≡ 9 * n) ⌝ }
     requires { ⌜ (back ≡ true → moving u v ≡ false) ⌝ }
-    ensures { λ _. ⌜ Along (now (f .entry)) (now (f .exit)) n line (planesOf (Turned.facing back) d) (line .count) (λ j. entriesOf (walled u v (alone back (now (post .entry)) n (spot line j)) 0 0) d) ⌝ }
+    ensures along { λ _. ⌜ Along (now (f .entry)) (now (f .exit)) n line (planesOf (Turned.facing back) d) (line .count) (λ j. entriesOf (walled u v (alone back (now (post .entry)) n (spot line j)) 0 0) d) ⌝ }
+    ensures keeps { λ r. ⌜ Keeps r (now (f .entry)) (now (f .exit)) ⌝ }
 {
     if (u != 0.0) | (v != 0.0) {
-        moving_wall(line, n, d, u, v, post, f);
+        moving_wall(line, n, d, u, v, post, f)
     } else {
-        reflect(line, n, incoming(back, d), opposites(back, d), post, f);
+        reflect(line, n, incoming(back, d), opposites(back, d), post, f)
     }
 }
 
 // Specular reflection: a free-slip or symmetry plane across an axis.
-fn specular(line: Line, n: usize, d: Names, back: bool, axis: usize, post: &[u64], f: &mut [u64])
+fn specular(
+    line: Line,
+    n: usize,
+    d: Names,
+    back: bool,
+    axis: usize,
+    post: &[u64],
+    f: &mut [u64],
+) -> u64
     requires { ⌜ Inside line n × Sound d ⌝ }
     requires { ⌜ (length (now post) ≡ 9 * n) × (length (now f) ≡ 9 * n) ⌝ }
-    ensures { λ _. ⌜ Along (now (f .entry)) (now (f .exit)) n line (planesOf (Turned.facing back) d) (line .count) (λ j. entriesOf (λ i. alone back (now (post .entry)) n (spot line j) 0 0 (mirror (axisOf axis) i)) d) ⌝ }
+    ensures along { λ _. ⌜ Along (now (f .entry)) (now (f .exit)) n line (planesOf (Turned.facing back) d) (line .count) (λ j. entriesOf (λ i. alone back (now (post .entry)) n (spot line j) 0 0 (mirror (axisOf axis) i)) d) ⌝ }
+    ensures keeps { λ r. ⌜ Keeps r (now (f .entry)) (now (f .exit)) ⌝ }
 {
-    reflect(line, n, incoming(back, d), mirrors(back, axis, d), post, f);
+    reflect(line, n, incoming(back, d), mirrors(back, axis, d), post, f)
 }
 
 // What a Zou-He face prescribes: the velocity along n and t, or the density.
@@ -425,17 +466,21 @@ fn zou_he_entries(d: Names, kind: ZouHe, f: [f64; 9]) -> Entries
 }
 
 // Zou-He velocity or pressure.
-fn zou_he(line: Line, n: usize, d: Names, kind: ZouHe, f: &mut [u64])
+fn zou_he(line: Line, n: usize, d: Names, kind: ZouHe, f: &mut [u64]) -> u64
     requires { ⌜ Inside line n × Sound d × (length (now f) ≡ 9 * n) ⌝ }
-    ensures { λ _. ⌜ Along (now (f .entry)) (now (f .exit)) n line (planesOf (Turned.facing false) d) (line .count) (λ j. entriesOf (zouHeAt d (Lines.prescribed kind) (alone false (now (f .entry)) n (spot line j)) 0 0) d) ⌝ }
+    ensures along { λ _. ⌜ Along (now (f .entry)) (now (f .exit)) n line (planesOf (Turned.facing false) d) (line .count) (λ j. entriesOf (zouHeAt d (Lines.prescribed kind) (alone false (now (f .entry)) n (spot line j)) 0 0) d) ⌝ }
+    ensures keeps { λ r. ⌜ Keeps r (now (f .entry)) (now (f .exit)) ⌝ }
 {
     let to = incoming(false, d);
+    let mut all = 0;
     let mut k = 0;
     while k < line.count {
         let c = line.start + k * line.stride;
-        put(f, n, c, to, zou_he_entries(d, kind, grid::gather(f, n, c)));
+        let bits = put(f, n, c, to, zou_he_entries(d, kind, grid::gather(f, n, c)));
+        all = all | bits;
         k += 1;
     }
+    all
 }
 
 // (u, v) along the vector (a, b).
@@ -465,15 +510,16 @@ fn face(
     ny: usize,
     post: &[u64],
     f: &mut [u64],
-)
+) -> u64
     requires { ⌜ Lent nx ny (now post) (now f) × (back ≡ true → drives kind ≡ false) ⌝ }
-    ensures { λ _. ⌜ Became back nx ny (now (f .entry)) (now (f .exit)) (Faces.face (axisOf axis) (sideOf side) kind nx ny (seen back nx ny (now (post .entry))) (seen back nx ny (now (f .entry)))) ⌝ }
+    ensures became { λ _. ⌜ Became back nx ny (now (f .entry)) (now (f .exit)) (Faces.face (axisOf axis) (sideOf side) kind nx ny (seen back nx ny (now (post .entry))) (seen back nx ny (now (f .entry)))) ⌝ }
+    ensures keeps { λ r. ⌜ Keeps r (now (f .entry)) (now (f .exit)) ⌝ }
 {
     let n = nx * ny;
     let line = line_of(axis, side, nx, ny);
     let d = names_of(axis, side);
     match kind {
-        Face::Periodic => {}
+        Face::Periodic => 0,
         Face::NoSlip => bounce_back(line, n, d, back, 0.0, 0.0, post, f),
         Face::MovingWall(u, v) => bounce_back(line, n, d, back, u, v, post, f),
         Face::Symmetry => specular(line, n, d, back, axis, post, f),
@@ -483,29 +529,33 @@ fn face(
 }
 
 // Applies the faces: x min, x max, y min, y max. A later face writes over an earlier one, so y settles corners.
-fn apply_boundaries(s: Settings, back: bool, post: &[u64], f: &mut [u64])
+fn apply_boundaries(s: Settings, back: bool, post: &[u64], f: &mut [u64]) -> u64
     requires { ⌜ Lent (s .nx) (s .ny) (now post) (now f) × (back ≡ true → driven s ≡ false) ⌝ }
-    ensures { λ _. ⌜ Became back (s .nx) (s .ny) (now (f .entry)) (now (f .exit)) (bounded s (seen back (s .nx) (s .ny) (now (post .entry))) (seen back (s .nx) (s .ny) (now (f .entry)))) ⌝ }
+    ensures became { λ _. ⌜ Became back (s .nx) (s .ny) (now (f .entry)) (now (f .exit)) (bounded s (seen back (s .nx) (s .ny) (now (post .entry))) (seen back (s .nx) (s .ny) (now (f .entry)))) ⌝ }
+    ensures keeps { λ r. ⌜ Keeps r (now (f .entry)) (now (f .exit)) ⌝ }
 {
     let x_min = s.x_min;
     let x_max = s.x_max;
     let y_min = s.y_min;
     let y_max = s.y_max;
-    face(0, 0, x_min, back, s.nx, s.ny, post, f);
-    face(0, 1, x_max, back, s.nx, s.ny, post, f);
-    face(1, 0, y_min, back, s.nx, s.ny, post, f);
-    face(1, 1, y_max, back, s.nx, s.ny, post, f);
+    let of_x_min = face(0, 0, x_min, back, s.nx, s.ny, post, f);
+    let of_x_max = face(0, 1, x_max, back, s.nx, s.ny, post, f);
+    let of_y_min = face(1, 0, y_min, back, s.nx, s.ny, post, f);
+    let of_y_max = face(1, 1, y_max, back, s.nx, s.ny, post, f);
+    of_x_min | of_x_max | of_y_min | of_y_max
 }
 
 // ---- streaming with faces
 
 // Streams post into f and applies the faces: forward for each step of a run, and turned round for the reverse.
-pub fn carry(s: Settings, back: bool, post: &[u64], f: &mut [u64])
+pub fn carry(s: Settings, back: bool, post: &[u64], f: &mut [u64]) -> u64
     requires { ⌜ Lent (s .nx) (s .ny) (now post) (now f) × (back ≡ true → driven s ≡ false) ⌝ }
-    ensures { λ _. ⌜ now (f .exit) ≡ carried back s (now (post .entry)) ⌝ }
+    ensures is { λ _. ⌜ now (f .exit) ≡ carried back s (now (post .entry)) ⌝ }
+    ensures told { λ r. ⌜ (plainOf r ≡ true → AllPlain (now (f .exit))) ⌝ }
 {
-    stream(back, s.nx, s.ny, post, f);
-    apply_boundaries(s, back, post, f);
+    let streamed = stream(back, s.nx, s.ny, post, f);
+    let bounded = apply_boundaries(s, back, post, f);
+    streamed | bounded
 }
 
 // Reads the post-collision buffer and makes f the next populations. A refused call leaves f as it was.

@@ -37,7 +37,7 @@ returns-2 c =
     let test = done .before .before in
     let r = test .before in
     let a = r .before .before .before .args in
-    reverse-done (a .s) (a .f .now) (a .post .now) (sym (r .reverse-refusal .ensures) ∙ test .if1 .left) _ (done .carry .ensures)
+    reverse-done (a .s) (a .f .now) (a .post .now) (sym (r .reverse-refusal .ensures) ∙ test .if1 .left) _ (done .carry .ensures .0)
 
 pub reverse-spec : {M : Type 1} → statement M
 reverse-spec = tie.close (tie.spec (λ c κs. search needs) returns carry-requires (λ c. search needs) returns-2)

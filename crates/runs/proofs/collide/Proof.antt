@@ -13,7 +13,7 @@ returns c =
     let told = pass .before .before in
     let tau = told .before .before in
     let start = tau .before .before .before .before in
-    pass-all _ _ (told .enum-told .given .1) (tau .tau .ensures) (start .pre .post-size) (pass .collide-bgk .ensures)
+    pass-all _ _ (told .enum-told .given .1) (tau .tau .ensures) (start .pre .0 .post-size) (pass .collide-bgk .ensures)
 
 returns-2 : tie.Need-returns-2
 unfolding collidedBy
@@ -22,7 +22,7 @@ returns-2 c =
     let told = pass .before .before in
     let tau = told .before .before in
     let start = tau .before .before .before .before in
-    pass-all _ _ (told .enum-told2 .given .1) (tau .tau .ensures) (start .pre .post-size) (pass .collide-mrt .ensures)
+    pass-all _ _ (told .enum-told2 .given .1) (tau .tau .ensures) (start .pre .0 .post-size) (pass .collide-mrt .ensures)
 
 returns-3 : tie.Need-returns-3
 unfolding collidedBy
@@ -31,7 +31,7 @@ returns-3 c =
     let known = pass .before .before .before in
     let tau = known .before .before in
     let start = tau .before .before .before .before in
-    pass-all _ _ (known .k .given .1) (tau .tau .ensures) (start .pre .post-size) (pass .collide-trt .ensures)
+    pass-all _ _ (known .k .given .1) (tau .tau .ensures) (start .pre .0 .post-size) (pass .collide-trt .ensures)
 
 pub collide-spec : {M : Type 1} → statement M
 collide-spec =

@@ -1,29 +1,39 @@
--- `runs::collide_trt` meets its contract: either pass collides every cell, at the rates of tau.
+-- `runs::collide_trt` meets its contract: each pass collides every cell, at the rates of tau; the quick ones read plain entries.
 -- Assumes nothing.
 use mathlib.Core.Path.{sym, _∙_}
 use borrow.Author.Needs.{needs}
+use borrow.Author.Tests.{not-false}
 use Rattle.runs.proofs.collide_trt.Statement.{statement}
 use Rattle.runs.proofs.collide_trt.Tie as tie
 
 trt-pass-forced-requires : tie.Need-trt-pass-forced-requires
 trt-pass-forced-requires c κs =
     let test = c .before .before in
-    (test .before .before .before .before .pre, sym (test .forced .ensures) ∙ c .before .if1 .taken)
+    let quick = test .before in
+    let given = quick .before .before .before .before .pre in
+    (given .0, sym (test .forced .ensures) ∙ c .before .if2 .taken, given .1 (not-false _ (quick .if1 .left)))
 
 trt-pass-requires : tie.Need-trt-pass-requires
 trt-pass-requires c κs =
     let test = c .before .before in
-    (test .before .before .before .before .pre, sym (test .forced .ensures) ∙ c .before .if1 .left)
+    let quick = test .before in
+    let given = quick .before .before .before .before .pre in
+    (given .0, sym (test .forced .ensures) ∙ c .before .if2 .left, given .1 (not-false _ (quick .if1 .left)))
 
 returns : tie.Need-returns
 returns c =
     let pass = c .before .before in
-    rw (pass .before .before .before .before .trt-rates .ensures) at (pass .trt-pass-forced .ensures)
+    rw (pass .before .before .before .trt-rates .ensures) at (pass .trt-pass-any .ensures)
 
 returns-2 : tie.Need-returns-2
 returns-2 c =
     let pass = c .before .before in
-    rw (pass .before .before .before .before .trt-rates .ensures) at (pass .trt-pass .ensures)
+    rw (pass .before .before .before .before .before .trt-rates .ensures) at (pass .trt-pass-forced .ensures)
+
+returns-3 : tie.Need-returns-3
+returns-3 c =
+    let pass = c .before .before in
+    rw (pass .before .before .before .before .before .trt-rates .ensures) at (pass .trt-pass .ensures)
 
 pub collide-trt-spec : {M : Type 1} → statement M
 collide-trt-spec =
@@ -31,9 +41,12 @@ collide-trt-spec =
     (tie.spec
     (λ c κs. search needs)
     (λ c κs. search needs)
+    (λ c κs. search needs)
     trt-pass-forced-requires
     trt-pass-requires
     (λ c. search needs)
     returns
     (λ c. search needs)
-    returns-2)
+    returns-2
+    (λ c. search needs)
+    returns-3)

@@ -26,7 +26,7 @@ loop-again c =
     let put = c .before .before in
     let cell = put .before .before in
     let test = cell .before .before in
-    (omega arith, pass-more _ _ _ _ (test .loop-test .taken) (test .before .loop .inv .1) (put .put-back .ensures) (cell .before .gather .ensures) (cell .trt-cell-forced .ensures))
+    (omega arith, pass-more _ _ _ _ (test .loop-test .taken) (test .before .loop .inv .1) (put .put-back .ensures) (cell .before .gather-plain .ensures) (cell .trt-cell-forced .ensures))
 
 same-length : tie.Need-same-length Inv-loop μ-loop
 same-length c = c .before .loop .inv .1 .size

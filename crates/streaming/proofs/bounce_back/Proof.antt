@@ -19,7 +19,7 @@ reflect-requires : tie.Need-reflect-requires
 reflect-requires c κs = search needs
 
 same-length : tie.Need-same-length
-same-length c = c .before .before .moving-wall .ensures .size
+same-length c = c .before .before .moving-wall .ensures .0 .size
 
 returns : tie.Need-returns
 unfolding walled
@@ -27,10 +27,10 @@ returns c =
     let m = c .before .before in
     let test = m .before .before in
     let s = test .before .before .before in
-    rw (not-back (s .args .back) _ (s .pre .1 .1) (test .if1 .taken), test .if1 .taken) (m .moving-wall .ensures)
+    (rw (not-back (s .args .back) _ (s .pre .1 .1) (test .if1 .taken), test .if1 .taken) (m .moving-wall .ensures .0), m .moving-wall .ensures .1)
 
 same-length-2 : tie.Need-same-length-2
-same-length-2 c = c .before .before .reflect .ensures .size
+same-length-2 c = c .before .before .reflect .ensures .0 .size
 
 returns-2 : tie.Need-returns-2
 unfolding walled
@@ -38,7 +38,7 @@ returns-2 c =
     let r = c .before .before in
     let o = r .before .before in
     let i = o .before in
-    rw (i .before .if1 .left) (rw (i .incoming .ensures .0, o .opposites .ensures .0) at (r .reflect .ensures))
+    (rw (i .before .if1 .left) (rw (i .incoming .ensures .0, o .opposites .ensures .0) at (r .reflect .ensures .0)), r .reflect .ensures .1)
 
 pub bounce-back-spec : {M : Type 1} → statement M
 bounce-back-spec =

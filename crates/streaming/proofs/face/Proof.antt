@@ -4,6 +4,7 @@ use mathlib.Core.Path.{ap}
 use mathlib.Core.Bool.{false}
 use Prim.Native.Nat.{_*_}
 use borrow.Author.Needs.{needs}
+use Rattle.grid.proofs.Telling.{keeps-none}
 use Rattle.lattice.specs.Lookup.{axisOf}
 use Rattle.settings.specs.declared.Face.the-variants.{NoSlip, Symmetry}
 use Rattle.settings.specs.Tests.{drives}
@@ -70,11 +71,13 @@ zou-he-requires-2 c κs = search needs
 returns : tie.Need-returns
 returns c =
     let m = c .before .before in
-    let a = m .before .before .before .before .args in
-    rw (c .enum-told .given .1) (still (a .back) (axisOf (a .axis)) (sideOf (a .side)) (a .nx) (a .ny) _ (a .f .now))
+    let a = m .before .before .before .before .args in (
+      rw (c .enum-told .given .1) (still (a .back) (axisOf (a .axis)) (sideOf (a .side)) (a .nx) (a .ny) _ (a .f .now)),
+      keeps-none _ _,
+    )
 
 same-length : tie.Need-same-length
-same-length c = c .before .before .bounce-back .ensures .size
+same-length c = c .before .before .bounce-back .ensures .0 .size
 
 returns-2 : tie.Need-returns-2
 unfolding takes
@@ -82,12 +85,14 @@ returns-2 c =
     let b = c .before .before in
     let told = b .before .before in
     let m = told .before .before in
-    let a = m .before .before .before .before .args in
-    settled (a .back) (axisOf (a .axis)) (sideOf (a .side)) NoSlip (a .nx) (a .ny) (a .post .now) (a .f .now) _ (told .enum-told2 .given .1)
-    (along-same (λ j. rests (alone (a .back) (a .post .now) (a .nx * a .ny) (spot (lineOf (axisOf (a .axis)) (sideOf (a .side)) (a .nx) (a .ny)) j)) (names (axisOf (a .axis)) (sideOf (a .side)))) (rw (m .before .line-of .ensures .0, m .names-of .ensures .0) at (b .bounce-back .ensures)))
+    let a = m .before .before .before .before .args in (
+      settled (a .back) (axisOf (a .axis)) (sideOf (a .side)) NoSlip (a .nx) (a .ny) (a .post .now) (a .f .now) _ (told .enum-told2 .given .1)
+          (along-same (λ j. rests (alone (a .back) (a .post .now) (a .nx * a .ny) (spot (lineOf (axisOf (a .axis)) (sideOf (a .side)) (a .nx) (a .ny)) j)) (names (axisOf (a .axis)) (sideOf (a .side)))) (rw (m .before .line-of .ensures .0, m .names-of .ensures .0) at (b .bounce-back .ensures .0))),
+      b .bounce-back .ensures .1,
+    )
 
 same-length-2 : tie.Need-same-length-2
-same-length-2 c = c .before .before .bounce-back2 .ensures .size
+same-length-2 c = c .before .before .bounce-back2 .ensures .0 .size
 
 returns-3 : tie.Need-returns-3
 unfolding takes
@@ -95,12 +100,14 @@ returns-3 c =
     let b = c .before .before in
     let known = b .before .before .before in
     let m = known .before .before in
-    let a = m .before .before .before .before .args in
-    settled (a .back) (axisOf (a .axis)) (sideOf (a .side)) _ (a .nx) (a .ny) (a .post .now) (a .f .now) _ (known .kind .given .1)
-    (rw (m .before .line-of .ensures .0, m .names-of .ensures .0) at (b .bounce-back2 .ensures))
+    let a = m .before .before .before .before .args in (
+      settled (a .back) (axisOf (a .axis)) (sideOf (a .side)) _ (a .nx) (a .ny) (a .post .now) (a .f .now) _ (known .kind .given .1)
+          (rw (m .before .line-of .ensures .0, m .names-of .ensures .0) at (b .bounce-back2 .ensures .0)),
+      b .bounce-back2 .ensures .1,
+    )
 
 same-length-3 : tie.Need-same-length-3
-same-length-3 c = c .before .before .specular .ensures .size
+same-length-3 c = c .before .before .specular .ensures .0 .size
 
 returns-4 : tie.Need-returns-4
 unfolding takes
@@ -108,12 +115,14 @@ returns-4 c =
     let b = c .before .before in
     let told = b .before .before in
     let m = told .before .before in
-    let a = m .before .before .before .before .args in
-    settled (a .back) (axisOf (a .axis)) (sideOf (a .side)) Symmetry (a .nx) (a .ny) (a .post .now) (a .f .now) _ (told .enum-told3 .given .1)
-    (rw (m .before .line-of .ensures .0, m .names-of .ensures .0) at (b .specular .ensures))
+    let a = m .before .before .before .before .args in (
+      settled (a .back) (axisOf (a .axis)) (sideOf (a .side)) Symmetry (a .nx) (a .ny) (a .post .now) (a .f .now) _ (told .enum-told3 .given .1)
+          (rw (m .before .line-of .ensures .0, m .names-of .ensures .0) at (b .specular .ensures .0)),
+      b .specular .ensures .1,
+    )
 
 same-length-4 : tie.Need-same-length-4
-same-length-4 c = c .before .before .zou-he .ensures .size
+same-length-4 c = c .before .before .zou-he .ensures .0 .size
 
 returns-5 : tie.Need-returns-5
 unfolding takes
@@ -123,13 +132,15 @@ returns-5 c =
     let known = v .before .before in
     let m = known .before .before in
     let s = m .before .before .before .before in
-    let a = s .args in
-    rw (not-back (a .back) (drives (a .kind)) (s .pre .1) (ap drives (known .kind2 .given .1)))
-    (settled false (axisOf (a .axis)) (sideOf (a .side)) _ (a .nx) (a .ny) (a .post .now) (a .f .now) _ (known .kind2 .given .1)
-    (rw (v .velocity .ensures, m .before .line-of .ensures .0, m .names-of .ensures .0) at (z .zou-he .ensures)))
+    let a = s .args in (
+      rw (not-back (a .back) (drives (a .kind)) (s .pre .1) (ap drives (known .kind2 .given .1)))
+          (settled false (axisOf (a .axis)) (sideOf (a .side)) _ (a .nx) (a .ny) (a .post .now) (a .f .now) _ (known .kind2 .given .1)
+          (rw (v .velocity .ensures, m .before .line-of .ensures .0, m .names-of .ensures .0) at (z .zou-he .ensures .0))),
+      z .zou-he .ensures .1,
+    )
 
 same-length-5 : tie.Need-same-length-5
-same-length-5 c = c .before .before .zou-he2 .ensures .size
+same-length-5 c = c .before .before .zou-he2 .ensures .0 .size
 
 returns-6 : tie.Need-returns-6
 unfolding takes
@@ -138,10 +149,12 @@ returns-6 c =
     let known = z .before .before .before in
     let m = known .before .before in
     let s = m .before .before .before .before in
-    let a = s .args in
-    rw (not-back (a .back) (drives (a .kind)) (s .pre .1) (ap drives (known .kind3 .given .1)))
-    (settled false (axisOf (a .axis)) (sideOf (a .side)) _ (a .nx) (a .ny) (a .post .now) (a .f .now) _ (known .kind3 .given .1)
-    (rw (m .before .line-of .ensures .0, m .names-of .ensures .0) at (z .zou-he2 .ensures)))
+    let a = s .args in (
+      rw (not-back (a .back) (drives (a .kind)) (s .pre .1) (ap drives (known .kind3 .given .1)))
+          (settled false (axisOf (a .axis)) (sideOf (a .side)) _ (a .nx) (a .ny) (a .post .now) (a .f .now) _ (known .kind3 .given .1)
+          (rw (m .before .line-of .ensures .0, m .names-of .ensures .0) at (z .zou-he2 .ensures .0))),
+      z .zou-he2 .ensures .1,
+    )
 
 pub face-spec : {M : Type 1} → statement M
 face-spec =

@@ -3,6 +3,8 @@
 use mathlib.Core.Bool.{false}
 use Prim.Native.Nat.{_-_, _≤_}
 use native.Mathlib.Omega.{arith}
+use Rattle.grid.specs.Plain.{Keeps}
+use Rattle.grid.proofs.Telling.{keeps-none, keeps-then}
 use borrow.Author.Needs.{needs}
 use Rattle.streaming.specs.Faces.{pushed}
 use Rattle.streaming.specs.Lines.{spot, entriesOf, alone, Along}
@@ -11,17 +13,17 @@ use Rattle.streaming.proofs.moving_wall.Statement.{statement}
 use Rattle.streaming.proofs.moving_wall.Tie as tie
 
 abbrev Inv-loop : tie.InvT-loop
-Inv-loop line n d u v post f₀ to k₀ f k =
-    (k ≤ line .count) × Along f₀ f n line to k (λ j. entriesOf (pushed u v (alone false post n (spot line j)) 0 0) d)
+Inv-loop line n d u v post f₀ to all₀ k₀ f all k =
+    (k ≤ line .count) × Along f₀ f n line to k (λ j. entriesOf (pushed u v (alone false post n (spot line j)) 0 0) d) × Keeps all f₀ f
 
 abbrev μ-loop : tie.MeasureT-loop
-μ-loop line n d u v post f₀ to k₀ f k = line .count - k
+μ-loop line n d u v post f₀ to all₀ k₀ f all k = line .count - k
 
 incoming-requires : tie.Need-incoming-requires Inv-loop μ-loop
 incoming-requires c κs = search needs
 
 loop-holds : tie.Need-loop-holds Inv-loop μ-loop
-loop-holds c = (omega arith, along-none _ _ _ _ _)
+loop-holds c = (omega arith, along-none _ _ _ _ _, keeps-none _ _)
 
 mul-c : tie.Need-mul-c Inv-loop μ-loop
 mul-c c =
@@ -62,7 +64,8 @@ loop-again c =
     let test = got .before .before .before .before in
     let head = test .before .before in
     let s = head .before .before .before .before in
-    along-more _ _ _ _ _ _ (head .loop .k) _ _ (s .pre .0 .0) (test .if1 .taken) (head .loop .inv .1) (put .put .ensures) (got .push-entries .ensures)
+    let along = along-more _ _ _ _ _ _ (head .loop .k) _ _ (s .pre .0 .0) (test .if1 .taken) (head .loop .inv .1) (put .put .ensures .0) (got .push-entries .ensures) in
+    (along .0, along .1, keeps-then (head .loop .inv .2) (put .put .ensures .1))
 
 same-length : tie.Need-same-length Inv-loop μ-loop
 same-length c = c .before .before .loop .inv .1 .size
@@ -70,7 +73,7 @@ same-length c = c .before .before .loop .inv .1 .size
 returns : tie.Need-returns Inv-loop μ-loop
 returns c =
     let head = c .before .before in
-    rw (← head .before .incoming .ensures .0) (along-all (head .loop .inv .1) (omega arith))
+    (rw (← head .before .incoming .ensures .0) (along-all (head .loop .inv .1) (omega arith)), head .loop .inv .2)
 
 pub moving-wall-spec : {M : Type 1} → statement M
 moving-wall-spec =

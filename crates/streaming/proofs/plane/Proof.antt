@@ -1,25 +1,27 @@
 -- `streaming::plane` meets its contract. The loop's invariant: the first y rows are written.
 -- Assumes nothing.
-use mathlib.Core.Path.{ap, _∙_}
+use mathlib.Core.Path.{_≡_, ap, _∙_}
 use Prim.Native.Nat.{ℕ, _*_, _-_, _≤_}
 use native.Mathlib.Nat.{mul-comm}
 use native.Mathlib.Omega.{arith}
 use Rattle.grid.specs.Writes.{Wrote}
+use Rattle.grid.specs.Plain.{Told}
 use Rattle.streaming.specs.Rows.{turnedPlane}
 use Rattle.grid.proofs.Radix.{row-in}
 use Rattle.streaming.proofs.Rows.{row-more}
 use Rattle.grid.proofs.Writes.{none, to-length}
+use Rattle.grid.proofs.Telling.{told-none, told-join, told-length}
 use Rattle.streaming.proofs.plane.Statement.{statement}
 use Rattle.streaming.proofs.plane.Tie as tie
 
 abbrev Inv-loop : tie.InvT-loop
-Inv-loop nx ny sx sy base src dst₀ y₀ dst y = (y ≤ ny) × Wrote dst₀ dst base (y * nx) (turnedPlane nx ny sx sy base src)
+Inv-loop nx ny sx sy base src dst₀ all₀ y₀ dst all y = (y ≤ ny) × Wrote dst₀ dst base (y * nx) (turnedPlane nx ny sx sy base src) × Told all dst base (y * nx)
 
 abbrev μ-loop : tie.MeasureT-loop
-μ-loop nx ny sx sy base src dst₀ y₀ dst y = ny - y
+μ-loop nx ny sx sy base src dst₀ all₀ y₀ dst all y = ny - y
 
 loop-holds : tie.Need-loop-holds Inv-loop μ-loop
-loop-holds c = (omega arith, to-length (none _ _ _) (omega arith))
+loop-holds c = (omega arith, to-length (none _ _ _) (omega arith), told-length (told-none _ _ _) (omega arith))
 
 add-wrap : tie.Need-add-wrap Inv-loop μ-loop
 add-wrap c = omega arith
@@ -55,14 +57,21 @@ loop-again c =
     let after-row = c .before .before in
     let after-wrap = after-row .before .before in
     let head = after-wrap .before .before in
-    let a = head .before .before .before .args in
-    (omega arith, row-more (a .src .now) _ _ _ (a .nx) (a .ny) (a .sx) (a .sy) (a .base) (head .loop .y) (after-wrap .wrap .result) (after-wrap .wrap .ensures .0) (head .loop .inv .1) (after-row .row .ensures))
+    let a = head .before .before .before .args in (
+      omega arith,
+      row-more (a .src .now) _ _ _ (a .nx) (a .ny) (a .sx) (a .sy) (a .base) (head .loop .y) (after-wrap .wrap .result) (after-wrap .wrap .ensures .0) (head .loop .inv .1) (after-row .row .ensures .0),
+      told-length (told-join (head .loop .inv .2) (after-row .row .ensures .0) (after-row .row .ensures .1)) (omega arith),
+    )
 
 same-length : tie.Need-same-length Inv-loop μ-loop
 same-length c = c .before .loop .inv .1 .size
 
 returns : tie.Need-returns Inv-loop μ-loop
-returns c = to-length (c .before .loop .inv .1) (ap (λ (t : ℕ). t * c .before .before .before .before .args .nx) (omega arith) ∙ mul-comm _ _)
+returns c =
+    let head = c .before in
+    let all : head .loop .y * head .before .before .before .args .nx ≡ head .before .before .before .args .nx * head .before .before .before .args .ny =
+    ap (λ (t : ℕ). t * head .before .before .before .args .nx) (omega arith) ∙ mul-comm _ _ in
+    (to-length (head .loop .inv .1) all, told-length (head .loop .inv .2) all)
 
 pub plane-spec : {M : Type 1} → statement M
 plane-spec =

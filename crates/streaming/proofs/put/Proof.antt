@@ -1,6 +1,7 @@
 -- `streaming::put` meets its contract: the three stores, one after the other.
 -- Assumes nothing.
 use borrow.Author.Needs.{needs}
+use Rattle.grid.proofs.Telling.{keeps-then}
 use Rattle.streaming.proofs.Lines.{put-three}
 use Rattle.streaming.proofs.put.Tie as tie
 use Rattle.streaming.proofs.put.Statement.{statement}
@@ -19,15 +20,14 @@ same-length c = search needs
 
 returns : tie.Need-returns
 returns c =
-    let s3 = c .before .before in
+    let s3 = c .before .before .before .before in
     let s2 = s3 .before .before .before .before in
     let s1 = s2 .before .before .before .before in
     let start = s1 .before .before .before in
-    let a = start .args in
-    put-three (a .f .now) (a .n) (a .c) (a .p) (a .v) (start .pre .0) (start .pre .1)
-    (s1 .set-entry .ensures .0)
-    (s2 .set-entry2 .ensures .0)
-    (s3 .set-entry3 .ensures .0)
+    let a = start .args in (
+      put-three (a .f .now) (a .n) (a .c) (a .p) (a .v) (start .pre .0) (start .pre .1) (s1 .set-entry .ensures .0) (s2 .set-entry2 .ensures .0) (s3 .set-entry3 .ensures .0),
+      keeps-then (keeps-then (s1 .set-entry .ensures .1 .1) (s2 .set-entry2 .ensures .1 .1)) (s3 .set-entry3 .ensures .1 .1),
+    )
 
 pub put-spec : {M : Type 1} → statement M
 put-spec =

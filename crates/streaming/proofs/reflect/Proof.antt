@@ -2,20 +2,22 @@
 -- Assumes nothing.
 use Prim.Native.Nat.{_-_, _≤_}
 use native.Mathlib.Omega.{arith}
+use Rattle.grid.specs.Plain.{Keeps}
+use Rattle.grid.proofs.Telling.{keeps-none, keeps-then}
 use Rattle.streaming.specs.Lines.{spot, entriesAt, Along}
 use Rattle.streaming.proofs.Lines.{holds-spot, along-none, along-more, along-all}
 use Rattle.streaming.proofs.reflect.Statement.{statement}
 use Rattle.streaming.proofs.reflect.Tie as tie
 
 abbrev Inv-loop : tie.InvT-loop
-Inv-loop line n to from post f₀ k₀ f k =
-    (k ≤ line .count) × Along f₀ f n line to k (λ j. entriesAt post n (spot line j) from)
+Inv-loop line n to from post f₀ all₀ k₀ f all k =
+    (k ≤ line .count) × Along f₀ f n line to k (λ j. entriesAt post n (spot line j) from) × Keeps all f₀ f
 
 abbrev μ-loop : tie.MeasureT-loop
-μ-loop line n to from post f₀ k₀ f k = line .count - k
+μ-loop line n to from post f₀ all₀ k₀ f all k = line .count - k
 
 loop-holds : tie.Need-loop-holds Inv-loop μ-loop
-loop-holds c = (omega arith, along-none _ _ _ _ _)
+loop-holds c = (omega arith, along-none _ _ _ _ _, keeps-none _ _)
 
 mul-c : tie.Need-mul-c Inv-loop μ-loop
 mul-c c =
@@ -56,13 +58,14 @@ loop-again c =
     let test = got .before .before .before .before in
     let head = test .before .before in
     let s = head .before .before .before in
-    along-more _ _ _ _ _ _ (head .loop .k) _ _ (s .pre .0 .0) (test .if1 .taken) (head .loop .inv .1) (put .put .ensures) (got .entries-at .ensures)
+    let along = along-more _ _ _ _ _ _ (head .loop .k) _ _ (s .pre .0 .0) (test .if1 .taken) (head .loop .inv .1) (put .put .ensures .0) (got .entries-at .ensures) in
+    (along .0, along .1, keeps-then (head .loop .inv .2) (put .put .ensures .1))
 
 same-length : tie.Need-same-length Inv-loop μ-loop
 same-length c = c .before .before .loop .inv .1 .size
 
 returns : tie.Need-returns Inv-loop μ-loop
-returns c = along-all (c .before .before .loop .inv .1) (omega arith)
+returns c = let i = c .before .before .loop .inv in (along-all (i .1) (omega arith), i .2)
 
 pub reflect-spec : {M : Type 1} → statement M
 reflect-spec =

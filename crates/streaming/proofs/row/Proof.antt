@@ -1,6 +1,8 @@
 -- `streaming::row` meets its contract: the two copies meet.
 -- Assumes nothing.
+use native.Mathlib.Omega.{arith}
 use borrow.Author.Needs.{needs}
+use Rattle.grid.proofs.Telling.{told-join, told-length}
 use Rattle.streaming.proofs.Rows.{two-parts}
 use Rattle.streaming.proofs.row.Statement.{statement}
 use Rattle.streaming.proofs.row.Tie as tie
@@ -28,7 +30,7 @@ returns c =
     let after2 = c .before .before in
     let after1 = after2 .before .before .before .before in
     let start = after1 .before .before .before .before in
-    two-parts (start .args .src .now) _ _ _ (start .args .from) _ _ _ (start .pre .0) (after1 .copy .ensures) (after2 .copy2 .ensures)
+    (two-parts (start .args .src .now) _ _ _ (start .args .from) _ _ _ (start .pre .0) (after1 .copy .ensures .0) (after2 .copy2 .ensures .0), told-length (told-join (after1 .copy .ensures .1) (after2 .copy2 .ensures .0) (after2 .copy2 .ensures .1)) (omega arith))
 
 pub row-spec : {M : Type 1} → statement M
 row-spec =

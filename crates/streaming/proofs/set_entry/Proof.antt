@@ -6,6 +6,7 @@ use native.Mathlib.Omega.{arith}
 use lib.ListN.{length-set}
 use borrow.Author.Needs.{needs}
 use Rattle.grid.proofs.Radix.{cell-in}
+use Rattle.grid.proofs.Telling.{keeps-set}
 use Rattle.streaming.proofs.set_entry.Tie as tie
 use Rattle.streaming.proofs.set_entry.Statement.{statement}
 
@@ -30,7 +31,7 @@ same-length c = search needs
 returns : tie.Need-returns
 returns c =
     let held = c .pre .0 in
-    (refl, record { few = held .few; cell = held .cell; size = simp length-set (held .size) })
+    (refl, (record { few = held .few; cell = held .cell; size = simp length-set (held .size) }, keeps-set _ _ _ (omega (arith, place c, held .size))))
 
 pub set-entry-spec : {M : Type 1} → statement M
 set-entry-spec = tie.close (tie.spec mul-f add-f mul-f-2 slice-write-f same-length returns)

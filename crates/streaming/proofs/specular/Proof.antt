@@ -14,13 +14,13 @@ reflect-requires : tie.Need-reflect-requires
 reflect-requires c κs = search needs
 
 same-length : tie.Need-same-length
-same-length c = c .before .before .reflect .ensures .size
+same-length c = c .before .before .reflect .ensures .0 .size
 
 returns : tie.Need-returns
 returns c =
     let r = c .before .before in
     let m = r .before .before in
-    rw (m .before .incoming .ensures .0, m .mirrors .ensures .0) at (r .reflect .ensures)
+    (rw (m .before .incoming .ensures .0, m .mirrors .ensures .0) at (r .reflect .ensures .0), r .reflect .ensures .1)
 
 pub specular-spec : {M : Type 1} → statement M
 specular-spec =

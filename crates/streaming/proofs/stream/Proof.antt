@@ -1,26 +1,29 @@
 -- `streaming::stream` meets its contract. The loop's invariant: the first j planes are written.
 -- Assumes nothing.
-use mathlib.Core.Path.{ap}
+use mathlib.Core.Path.{_≡_, ap, _∙_}
 use Prim.Native.Nat.{ℕ, _*_, _-_, _≤_}
 use native.Mathlib.Omega.{arith}
 use Rattle.grid.specs.Writes.{Wrote}
+use Rattle.grid.specs.Plain.{Told}
+use Rattle.streaming.specs.Rows.{turnedPlane}
 use Rattle.grid.proofs.Radix.{row-in}
 use Rattle.grid.proofs.Writes.{none, to-length}
+use Rattle.grid.proofs.Telling.{told-none, told-next, told-length, told-all}
 use Rattle.streaming.proofs.Rows.{flow, plane-more, all-planes}
 use Rattle.streaming.proofs.stream.Statement.{statement}
 use Rattle.streaming.proofs.stream.Tie as tie
 
 abbrev Inv-loop : tie.InvT-loop
-Inv-loop back nx ny src dst₀ n j₀ dst j = (j ≤ 9) × Wrote dst₀ dst 0 (j * (nx * ny)) (flow back nx ny src)
+Inv-loop back nx ny src dst₀ n all₀ j₀ dst all j = (j ≤ 9) × Wrote dst₀ dst 0 (j * (nx * ny)) (flow back nx ny src) × Told all dst 0 (j * (nx * ny))
 
 abbrev μ-loop : tie.MeasureT-loop
-μ-loop back nx ny src dst₀ n j₀ dst j = 9 - j
+μ-loop back nx ny src dst₀ n all₀ j₀ dst all j = 9 - j
 
 mul-n : tie.Need-mul-n Inv-loop μ-loop
 mul-n c = omega arith
 
 loop-holds : tie.Need-loop-holds Inv-loop μ-loop
-loop-holds c = (omega arith, to-length (none _ _ _) (omega arith))
+loop-holds c = (omega arith, to-length (none _ _ _) (omega arith), told-length (told-none _ _ _) (omega arith))
 
 facing-requires : tie.Need-facing-requires Inv-loop μ-loop
 facing-requires c κs = omega arith
@@ -63,7 +66,8 @@ loop-again c =
           (after-x .step-back .ensures .0)
           (after-y .step-back2 .ensures .0)
           (head .loop .inv .1)
-          (after-plane .plane .ensures),
+          (after-plane .plane .ensures .0),
+      told-length (told-next {v = turnedPlane (a .nx) (a .ny) (after-x .step-back .result) (after-y .step-back2 .result) (head .loop .j * (a .nx * a .ny)) (a .src .now)} (head .loop .inv .2) (after-plane .plane .ensures .0) (after-plane .plane .ensures .1)) (omega arith),
     )
 
 same-length : tie.Need-same-length Inv-loop μ-loop
@@ -73,7 +77,10 @@ returns : tie.Need-returns Inv-loop μ-loop
 returns c =
     let head = c .before in
     let a = head .before .before .before .args in
-    all-planes (a .back) (a .src .now) _ (a .nx) (a .ny) _ (to-length (head .loop .inv .1) (ap (λ (j : ℕ). j * (a .nx * a .ny)) (omega arith)))
+    let nine : head .loop .j * (a .nx * a .ny) ≡ 9 * (a .nx * a .ny) = ap (λ (j : ℕ). j * (a .nx * a .ny)) (omega arith) in (
+      all-planes (a .back) (a .src .now) _ (a .nx) (a .ny) _ (to-length (head .loop .inv .1) nine),
+      λ h. told-all (head .loop .inv .1 .size ∙ head .before .before .before .pre .written) (told-length (head .loop .inv .2) nine) h,
+    )
 
 pub stream-spec : {M : Type 1} → statement M
 stream-spec =

@@ -44,7 +44,7 @@ returns-2 c =
     let r = test .before in
     let a = r .before .before .before .args in
     answered (outcome (a .f .now) _) (r .stream-with-faces-refusal .ensures) (test .if1 .left)
-    (ap (λ (b : List ℕ). outcome b 0) (done .carry .ensures ∙ carried-forward (a .s) (a .post .now)))
+    (ap (λ (b : List ℕ). outcome b 0) (done .carry .ensures .0 ∙ carried-forward (a .s) (a .post .now)))
 
 pub stream-with-faces-spec : {M : Type 1} → statement M
 stream-with-faces-spec =

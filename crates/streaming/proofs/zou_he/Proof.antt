@@ -5,6 +5,8 @@ use mathlib.Core.Bool.{false}
 use mathlib.Core.List.{List}
 use Prim.Native.Nat.{ℕ, _-_, _≤_}
 use native.Mathlib.Omega.{arith}
+use Rattle.grid.specs.Plain.{Keeps}
+use Rattle.grid.proofs.Telling.{keeps-none, keeps-then}
 use lib.Ieee.{Float}
 use borrow.Author.Needs.{needs}
 use Rattle.number.specs.Number.{patternOf}
@@ -30,17 +32,17 @@ abbrev made : Line → ℕ → Names → ZouHe → List ℕ → ℕ → Entries
 made line n d kind f j = entriesOf (zouHeAt d (prescribed kind) (alone false f n (spot line j)) 0 0) d
 
 abbrev Inv-loop : tie.InvT-loop
-Inv-loop line n d kind f₀ to k₀ f k =
-    (k ≤ line .count) × Along f₀ f n line to k (made line n d kind f₀)
+Inv-loop line n d kind f₀ to all₀ k₀ f all k =
+    (k ≤ line .count) × Along f₀ f n line to k (made line n d kind f₀) × Keeps all f₀ f
 
 abbrev μ-loop : tie.MeasureT-loop
-μ-loop line n d kind f₀ to k₀ f k = line .count - k
+μ-loop line n d kind f₀ to all₀ k₀ f all k = line .count - k
 
 incoming-requires : tie.Need-incoming-requires Inv-loop μ-loop
 incoming-requires c κs = search needs
 
 loop-holds : tie.Need-loop-holds Inv-loop μ-loop
-loop-holds c = (omega arith, along-none _ _ _ _ _)
+loop-holds c = (omega arith, along-none _ _ _ _ _, keeps-none _ _)
 
 mul-c : tie.Need-mul-c Inv-loop μ-loop
 mul-c c =
@@ -90,8 +92,9 @@ loop-again c =
     let v = made (a .line) (a .n) (a .d) (a .kind) (a .f .now) in
     let w = head .loop .inv .1 in
     let same = not-yet {v = v} (head .loop .k) (s .pre .0) (test .if1 .taken) w in
-    along-more _ _ _ _ _ _ (head .loop .k) v _ (s .pre .0) (test .if1 .taken) w (put .put .ensures)
-    (then-from (a .d) (a .kind) (got .gather .result) (z .zou-he-entries .ensures) (got .gather .ensures ∙ same))
+    let along = along-more _ _ _ _ _ _ (head .loop .k) v _ (s .pre .0) (test .if1 .taken) w (put .put .ensures .0)
+    (then-from (a .d) (a .kind) (got .gather .result) (z .zou-he-entries .ensures) (got .gather .ensures ∙ same)) in
+    (along .0, along .1, keeps-then (head .loop .inv .2) (put .put .ensures .1))
 
 same-length : tie.Need-same-length Inv-loop μ-loop
 same-length c = c .before .before .loop .inv .1 .size
@@ -99,7 +102,7 @@ same-length c = c .before .before .loop .inv .1 .size
 returns : tie.Need-returns Inv-loop μ-loop
 returns c =
     let head = c .before .before in
-    rw (← head .before .incoming .ensures .0) (along-all (head .loop .inv .1) (omega arith))
+    (rw (← head .before .incoming .ensures .0) (along-all (head .loop .inv .1) (omega arith)), head .loop .inv .2)
 
 pub zou-he-spec : {M : Type 1} → statement M
 zou-he-spec =
