@@ -547,7 +547,8 @@ fn apply_boundaries(s: Settings, back: bool, post: &[u64], f: &mut [u64]) -> u64
 
 // ---- streaming with faces
 
-// Streams post into f and applies the faces: forward for each step of a run, and turned round for the reverse.
+// Streams post into f and applies the faces: forward for each step of a run, and turned round for the reverse. The bits that it
+// answers are plain only where every entry of f is.
 pub fn carry(s: Settings, back: bool, post: &[u64], f: &mut [u64]) -> u64
     requires { ⌜ Lent (s .nx) (s .ny) (now post) (now f) × (back ≡ true → driven s ≡ false) ⌝ }
     ensures is { λ _. ⌜ now (f .exit) ≡ carried back s (now (post .entry)) ⌝ }
