@@ -467,23 +467,32 @@ pub fn trt_cell_forced(f: [f64; 9], fx: f64, fy: f64, rates: TrtRates) -> [f64; 
     trt_sourced(kept, guo_sources(m, fx, fy, along_force(fx, fy)), rates)
 }
 
-// With a force and without, for the passes that test every entry.
+// With a force and without, for the passes that test every entry. Each chooses its source itself: `sources`, if they shared it,
+// would stay a call in their loops. MRT, too large as it is for two loops, has no other cell.
 pub fn bgk_cell_any(f: [f64; 9], fx: f64, fy: f64, rates: BgkRates) -> [f64; 9]
     ensures { λ r. ⌜ r ≡ cellBy (bgk rates) f fx fy ⌝ }
 {
     let m = collision_moments(f, fx, fy);
-    collide_bgk(f, equilibria(m), sources(m, fx, fy), rates)
+    let feq = equilibria(m);
+    if forced(fx, fy) {
+        collide_bgk(f, feq, guo_sources(m, fx, fy, along_force(fx, fy)), rates)
+    } else {
+        collide_bgk(f, feq, [0.0; 9], rates)
+    }
 }
 
 pub fn trt_cell_any(f: [f64; 9], fx: f64, fy: f64, rates: TrtRates) -> [f64; 9]
     ensures { λ r. ⌜ r ≡ cellBy (trt rates) f fx fy ⌝ }
 {
     let m = collision_moments(f, fx, fy);
-    collide_trt(f, equilibria(m), sources(m, fx, fy), rates)
+    let feq = equilibria(m);
+    if forced(fx, fy) {
+        collide_trt(f, feq, guo_sources(m, fx, fy, along_force(fx, fy)), rates)
+    } else {
+        collide_trt(f, feq, [0.0; 9], rates)
+    }
 }
 
-// MRT has no other cell, too large as it is for two loops. It chooses the source itself: `sources`, which the others share, would
-// stay a call in its loop.
 pub fn mrt_cell(f: [f64; 9], fx: f64, fy: f64, rates: MrtRates) -> [f64; 9]
     ensures { λ r. ⌜ r ≡ cellBy (mrt rates) f fx fy ⌝ }
 {

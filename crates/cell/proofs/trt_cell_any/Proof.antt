@@ -1,24 +1,40 @@
--- `cell::trt_cell_any` meets its contract: the four calls give its parts.
+-- `cell::trt_cell_any` meets its contract: the calls give its parts, with a force and without.
 -- Assumes nothing.
+use mathlib.Core.Path.{sym, _∙_}
 use borrow.Author.Needs.{needs}
-use Rattle.cell.specs.Cell.{trt}
-use Rattle.cell.proofs.Cells.{cell-from}
+use Rattle.cell.specs.Cell.{noSource, trt}
+use Rattle.cell.proofs.Cells.{cell-from, source-forced, source-unforced}
 use Rattle.cell.proofs.trt_cell_any.Statement.{statement}
 use Rattle.cell.proofs.trt_cell_any.Tie as tie
 
 returns : tie.Need-returns
 returns c =
-    let m = c .before .before .before in
-    let s = m .before in
-    cell-from (trt (s .args .rates)) _ _ _
+    let test = c .before .before .before in
+    let e = test .before .before in
+    let m = e .before in
+    cell-from (trt (m .before .args .rates)) _ _ _
     (m .collision-moments .ensures)
-    (c .before .before .equilibria .ensures)
-    (c .before .sources .ensures)
+    (e .equilibria .ensures)
+    (source-forced _ _ _ (sym (test .before .forced .ensures) ∙ test .if1 .taken) (c .before .guo-sources .ensures))
     (c .collide-trt .ensures)
+
+returns-2 : tie.Need-returns-2
+unfolding noSource
+returns-2 c =
+    let test = c .before in
+    let e = test .before .before in
+    let m = e .before in
+    cell-from (trt (m .before .args .rates)) _ _ _
+    (m .collision-moments .ensures)
+    (e .equilibria .ensures)
+    (source-unforced _ _ _ (sym (test .before .forced .ensures) ∙ test .if1 .left))
+    (c .collide-trt2 .ensures)
 
 pub trt-cell-any-spec : {M : Type 1} → statement M
 trt-cell-any-spec =
     tie.close
     (tie.spec
     (λ c κs. search needs) (λ c κs. search needs) (λ c κs. search needs) (λ c κs. search needs)
-    returns)
+    (λ c κs. search needs) (λ c κs. search needs) (λ c κs. search needs)
+    returns
+    returns-2)
