@@ -1,5 +1,4 @@
 -- Streaming and the four faces together: fields that the code reached one after the other are the rule's, and a buffer is told by its field.
--- Assumes nothing.
 use mathlib.Core.Path.{_≡_, refl, sym, ap, _∙_}
 use mathlib.Core.Bool.{Bool, false, _||_}
 use mathlib.Core.List.{List}
@@ -11,7 +10,7 @@ use Rattle.grid.proofs.Fields.{same-refl, same-trans, buffer-length, field-of-b
 use Rattle.settings.specs.declared.Settings.{Settings}
 use Rattle.settings.specs.Tests.{drives, driven}
 use Rattle.settings.proofs.Laws.{or-left, or-right}
-use Rattle.streaming.specs.Steps.{streamed}
+use Rattle.streaming.specs.Travel.{streamed}
 use Rattle.streaming.specs.Rows.{Lent, Became}
 use Rattle.streaming.specs.Faces.{min, max, face}
 use Rattle.streaming.specs.Streaming.{bounded, next, nextBuffer}

@@ -1,5 +1,4 @@
 -- The directions of the four faces, by computed tables over axis and side: which come in, and that they are three different ones.
--- Assumes nothing.
 use mathlib.Core.Path.{_≡_, refl, sym, ap, _∙_, subst}
 use mathlib.Core.Bool.{Bool, true, false, _||_}
 use Prim.Native.Nat.{ℕ, zero, suc, _<_}
@@ -10,9 +9,9 @@ use Rattle.number.specs.Nine.{nine}
 use Rattle.number.proofs.Nine.{all-nine}
 use Rattle.lattice.specs.Lattice.{Axis, X, Y, directions}
 use Rattle.lattice.specs.Lookup.{axisOf, isRow, lookup}
-use Rattle.streaming.specs.declared.Names.{Names}
-use Rattle.streaming.specs.declared.Planes.{Planes}
-use Rattle.streaming.specs.Steps.{part}
+use Rattle.streaming.specs.declared.edge.Names.{Names}
+use Rattle.streaming.specs.declared.edge.Planes.{Planes}
+use Rattle.streaming.specs.Travel.{part}
 use Rattle.streaming.specs.Turned.{facing}
 use Rattle.streaming.specs.Faces.{Side, min, max, incoming, names}
 use Rattle.streaming.specs.Lines.{sideOf, planesOf, Small, Apart, Sound, Other}
@@ -54,8 +53,10 @@ sound Y max = search arith
 
 -- ---- three planes
 
-pub planes-of : (g : ℕ → ℕ) (d : Names) {a b c : ℕ} → a ≡ g (d .n) → b ≡ g (d .np) → c ≡ g (d .nm) → _≡_ {A = Planes} (record { n = a; np = b; nm = c }) (planesOf g d)
-planes-of g d p q r = λ x. record { n = p x; np = q x; nm = r x }
+-- each is what it is to be, and a plane
+pub three-planes : {a b c a' b' c' : ℕ} → (a ≡ a') × (a < 9) → (b ≡ b') × (b < 9) → (c ≡ c') × (c < 9)
+    → let p : Planes = record { n = a; np = b; nm = c } in (_≡_ {A = Planes} p (record { n = a'; np = b'; nm = c' })) × Small p
+three-planes (p, hp) (q, hq) (r, hr) = (λ x. record { n = p x; np = q x; nm = r x }, record { n = hp; np = hq; nm = hr })
 
 -- ---- one of three directions, or none
 

@@ -1,12 +1,11 @@
 -- What opposites and mirrors make of a direction's steps. Each law is one computed table of nine, over both axes.
--- Assumes nothing.
 use mathlib.Core.Path.{_≡_, refl}
 use Prim.Native.Nat.{ℕ, _<_}
 use Rattle.number.specs.Nine.{nine}
 use Rattle.number.proofs.Nine.{all-nine}
 use Rattle.lattice.specs.Lattice.{Axis, X, Y, directions, opposites, OPP}
 use Rattle.lattice.specs.Lookup.{mirror, lookup, isRow}
-use Rattle.streaming.specs.Steps.{Step, stay, up, down, part, against}
+use Rattle.streaming.specs.Travel.{Step, stay, up, down, part, against}
 
 pub against-twice : (e : Step) → against (against e) ≡ e
 against-twice stay = refl

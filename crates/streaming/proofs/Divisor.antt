@@ -1,5 +1,4 @@
 -- What number 5 tests of a Velocity face is the divisor of `zou_he`: where the faces are not refused, it is not 0.
--- Assumes nothing.
 use mathlib.Core.Path.{_≡_, refl}
 use mathlib.Core.Bool.{Bool, false, _||_}
 use lib.IntN.{pos, negsuc}

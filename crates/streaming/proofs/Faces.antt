@@ -1,5 +1,4 @@
 -- A face by its rule: what was written along its line of cells is the face's field, and a face keeps fields that agree in agreement.
--- Assumes nothing.
 use mathlib.Core.Path.{_≡_, refl, sym, ap, _∙_}
 use mathlib.Core.Bool.{Bool, true, false, cond, _&&_}
 use mathlib.Core.List.{List}
@@ -17,9 +16,9 @@ use Rattle.grid.specs.Grid.{Field, fieldOf, Same}
 use Rattle.grid.proofs.Radix.{within, low-inj, high-inj}
 use Rattle.settings.specs.declared.Face.{Face}
 use Rattle.settings.specs.declared.Face.the-variants.{Periodic, NoSlip, MovingWall, Symmetry, Velocity, Pressure}
-use Rattle.streaming.specs.declared.Names.{Names}
-use Rattle.streaming.specs.declared.Entries.{Entries}
-use Rattle.streaming.specs.Steps.{part}
+use Rattle.streaming.specs.declared.edge.Names.{Names}
+use Rattle.streaming.specs.declared.entries.Entries.{Entries}
+use Rattle.streaming.specs.Travel.{part}
 use Rattle.streaming.specs.Turned.{facing, seen}
 use Rattle.streaming.specs.Rows.{Became}
 use Rattle.streaming.specs.Faces.{Side, min, max, sizeOf, coordOf, onFace, incoming, fed, cellAt, moving, pushed, walled, names, zouHeAt, takes, face}

@@ -1,5 +1,4 @@
 -- What a write along a face leaves alone: the laws that every loop along a face cites, over the entries that it writes.
--- Assumes nothing.
 use mathlib.Core.Path.{_≡_, refl, sym, _∙_, subst}
 use mathlib.Core.List.{List}
 use Prim.Native.Nat.{ℕ, _+_, _-_, _*_, _≤_, _<_}
@@ -13,9 +12,9 @@ use Rattle.number.specs.Nine.{nine}
 use Rattle.lattice.specs.Lattice.{Axis, X, Y}
 use Rattle.grid.specs.Grid.{Grid, Holds, cellOf}
 use Rattle.grid.proofs.Radix.{within, low-inj, high-inj, cell-in}
-use Rattle.streaming.specs.declared.Line.{Line}
-use Rattle.streaming.specs.declared.Planes.{Planes}
-use Rattle.streaming.specs.declared.Entries.{Entries}
+use Rattle.streaming.specs.declared.edge.Line.{Line}
+use Rattle.streaming.specs.declared.edge.Planes.{Planes}
+use Rattle.streaming.specs.declared.entries.Entries.{Entries}
 use Rattle.streaming.specs.Faces.{Side, min, max}
 use Rattle.streaming.specs.Lines.{lineOf, spot, Inside, entriesAt, Apart, Changed, Along}
 

@@ -1,5 +1,4 @@
 -- Over Periodic, NoSlip and Symmetry every final entry is a copy of the entry at its source; `target` is `source` with opposite directions swapped.
--- Assumes nothing.
 use mathlib.Core.Path.{_≡_, refl, sym, ap, _∙_}
 use mathlib.Core.Bool.{Bool, true, false, cond, _&&_, _||_, true≢false}
 use Prim.Native.Nat.{ℕ, _<_}
@@ -13,7 +12,7 @@ use Rattle.settings.specs.declared.Face.the-variants.{Periodic, NoSlip, MovingW
 use Rattle.settings.specs.declared.Settings.{Settings}
 use Rattle.settings.specs.Tests.{drives, driven, isPeriodic, isSymmetry}
 use Rattle.settings.proofs.Laws.{or-left, or-right}
-use Rattle.streaming.specs.Steps.{Step, stay, up, down, part, against, moved, streamed}
+use Rattle.streaming.specs.Travel.{Step, stay, up, down, part, against, moved, streamed}
 use Rattle.streaming.specs.Turned.{turned}
 use Rattle.streaming.specs.Faces.{Side, min, max, incoming, fed, takes, face}
 use Rattle.streaming.specs.Streaming.{next}

@@ -1,5 +1,4 @@
 -- The rules of the faces, each stated once over axis and side.
--- Assumes nothing.
 use mathlib.Core.Bool.{Bool, true, false, cond, _&&_, _||_}
 use mathlib.Core.List.{List}
 use Prim.Native.Nat.{ℕ, _+_}
@@ -14,9 +13,9 @@ use Rattle.grid.specs.Grid.{Field}
 use Rattle.cell.specs.Cell.{alongAt, densityOf}
 use Rattle.settings.specs.declared.Face.{Face}
 use Rattle.settings.specs.declared.Face.the-variants.{Periodic, NoSlip, MovingWall, Symmetry, Velocity, Pressure}
-use Rattle.streaming.specs.Steps.{Step, stay, up, down, part}
-use Rattle.streaming.specs.declared.Names.{Names}
-use Rattle.streaming.specs.declared.Prescribed.{Prescribed}
+use Rattle.streaming.specs.Travel.{Step, stay, up, down, part}
+use Rattle.streaming.specs.declared.edge.Names.{Names}
+use Rattle.streaming.specs.declared.zou_he.Prescribed.{Prescribed}
 
 -- ---- where a face is, and which directions come in through it
 
@@ -114,8 +113,8 @@ byVelocity un ut sum = record { rho = sum ⊘ (c1 ⊖ un); un = un; ut = ut }
 unfoldable pub byPressure : Float → Float → Prescribed
 byPressure rho sum = record { rho = rho; un = c1 ⊖ sum ⊘ rho; ut = c0 }
 
-unfoldable pub known : Names → List Float → Float
-known d f =
+unfoldable pub knownSum : Names → List Float → Float
+knownSum d f =
     let parallel = at f 0 ⊕ at f (d .t) ⊕ at f (d .tm) in
     let outgoing = at f (OPP (d .n)) ⊕ at f (OPP (d .np)) ⊕ at f (OPP (d .nm)) in
     parallel ⊕ c2 ⊗ outgoing
@@ -130,7 +129,7 @@ zouHe d w f i =
 
 -- the same from what the face prescribes and the field before it
 unfoldable pub zouHeAt : Names → (Float → Prescribed) → Field → ℕ → ℕ → ℕ → ℕ
-zouHeAt d prescribe prev x y i = let f = cellAt prev x y in patternOf (zouHe d (prescribe (known d f)) f i)
+zouHeAt d prescribe prev x y i = let f = cellAt prev x y in patternOf (zouHe d (prescribe (knownSum d f)) f i)
 
 -- ---- ONE FACE: what a direction that comes in takes, from the post-collision field and the field as it stands before the face
 

@@ -1,23 +1,30 @@
--- What the functions below `face` cite: where a face's cells stand, the three entries that come in at each, and what writing them leaves.
--- Assumes nothing.
+-- What `face` and the functions below it cite: where a face's cells stand, the three entries that come in at each, and what writing
+-- them leaves.
 use mathlib.Core.Path.{_≡_}
 use mathlib.Core.Bool.{Bool}
 use mathlib.Core.List.{List}
 use Prim.Native.Nat.{ℕ, zero, suc, _+_, _-_, _*_, _≤_, _<_}
 use lib.ListN.{length, getD}
 use lib.Ieee.{Float}
-use Rattle.lattice.specs.Lattice.{Axis, X, Y}
+use Rattle.lattice.specs.Lattice.{Axis, X, Y, OPP}
+use Rattle.lattice.specs.Lookup.{axisOf, mirror}
 use Rattle.grid.specs.Grid.{Field, mostCells}
-use Rattle.streaming.specs.Turned.{facing}
-use Rattle.streaming.specs.Faces.{Side, min, max, normal, tangent, along, byVelocity, byPressure}
-use Rattle.streaming.specs.declared.Frame.{Frame}
-use Rattle.streaming.specs.declared.Names.{Names}
-use Rattle.streaming.specs.declared.Line.{Line}
-use Rattle.streaming.specs.declared.Planes.{Planes}
-use Rattle.streaming.specs.declared.Entries.{Entries}
-use Rattle.streaming.specs.declared.Prescribed.{Prescribed}
-use Rattle.streaming.specs.declared.ZouHe.{ZouHe}
-use Rattle.streaming.specs.declared.ZouHe.the-variants.{Velocity, Pressure}
+use Rattle.settings.specs.declared.Face.{Face}
+use Rattle.settings.specs.declared.Settings.{Settings}
+use Rattle.streaming.specs.Turned.{facing, seen}
+use Rattle.streaming.specs.Rows.{Became}
+use Rattle.streaming.specs.Faces.{Side, min, max, normal, tangent, along, names, byVelocity, byPressure, takes, face}
+use Rattle.streaming.specs.Source.{faceOf}
+use Rattle.streaming.specs.Streaming.{bounded}
+use Rattle.streaming.specs.declared.edge.Frame.{Frame}
+use Rattle.streaming.specs.declared.edge.Names.{Names}
+use Rattle.streaming.specs.declared.edge.Line.{Line}
+use Rattle.streaming.specs.declared.edge.Planes.{Planes}
+use Rattle.streaming.specs.declared.edge.Edge.{Edge}
+use Rattle.streaming.specs.declared.entries.Entries.{Entries}
+use Rattle.streaming.specs.declared.zou_he.Prescribed.{Prescribed}
+use Rattle.streaming.specs.declared.zou_he.ZouHe.{ZouHe}
+use Rattle.streaming.specs.declared.zou_he.ZouHe.the-variants.{Velocity, Pressure}
 
 -- ---- a face
 
@@ -55,6 +62,9 @@ pub record Inside (l : Line) (n : ℕ) : Type 0 where
 abbrev pub planesOf : (ℕ → ℕ) → Names → Planes
 planesOf g d = record { n = g (d .n); np = g (d .np); nm = g (d .nm) }
 
+abbrev pub each : (ℕ → ℕ) → Planes → Planes
+each g p = record { n = g (p .n); np = g (p .np); nm = g (p .nm) }
+
 abbrev pub entriesOf : (ℕ → ℕ) → Names → Entries
 entriesOf g d = record { n = g (d .n); np = g (d .np); nm = g (d .nm) }
 
@@ -84,6 +94,39 @@ pub record Sound (d : Names) : Type 0 where
   pub t : d .t < 9
   pub tm : d .tm < 9
   pub three : Apart (planesOf (λ i. i) d)
+
+-- a face as its cells need it
+abbrev pub edgeOf : ℕ → ℕ → Bool → ℕ → ℕ → Edge
+edgeOf axis side back nx ny =
+    let d = names (axisOf axis) (sideOf side) in
+    record {
+      axis = axis;
+      side = side;
+      back = back;
+      cells = nx * ny;
+      line = lineOf (axisOf axis) (sideOf side) nx ny;
+      names = d;
+      into = planesOf (facing back) d;
+      opposite = planesOf (λ i. facing back (OPP i)) d;
+      mirrored = planesOf (λ i. facing back (mirror (axisOf axis) i)) d;
+    }
+
+-- its parts belong together
+pub record Built (e : Edge) : Type 0 where
+  pub names-of : e .names ≡ names (axisOf (e .axis)) (sideOf (e .side))
+  pub into-of : e .into ≡ planesOf (facing (e .back)) (e .names)
+  pub opposite-of : e .opposite ≡ planesOf (λ i. facing (e .back) (OPP i)) (e .names)
+  pub mirrored-of : e .mirrored ≡ planesOf (λ i. facing (e .back) (mirror (axisOf (e .axis)) i)) (e .names)
+  pub sound : Sound (e .names)
+  pub into-apart : Apart (e .into)
+  pub opposite-small : Small (e .opposite)
+  pub mirrored-small : Small (e .mirrored)
+
+-- what its three directions take at cell c, from the two buffers
+abbrev pub takenAt : Edge → Face → List ℕ → List ℕ → ℕ → Entries
+takenAt e k post f c =
+    let n = e .cells in
+    entriesOf (takes (axisOf (e .axis)) (sideOf (e .side)) k (alone (e .back) post n c) (alone (e .back) f n c) 0 0) (e .names)
 
 -- plane i is none of the three
 pub record Other (i : ℕ) (p : Planes) : Type 0 where
@@ -115,3 +158,17 @@ velocityOf a s u v = Velocity (along u v (normal a s)) (along u v (tangent a))
 abbrev pub prescribed : ZouHe → Float → Prescribed
 prescribed (Velocity un ut) sum = byVelocity un ut sum
 prescribed (Pressure rho) sum = byPressure rho sum
+
+-- ---- what a face leaves, and what all four leave: of the settings s, with post lent, the buffer d has become e
+
+abbrev pub Faced : Settings → Axis → Side → Bool → List ℕ → List ℕ → List ℕ → Type 0
+Faced s a d back post f e =
+    let nx = s .nx in
+    let ny = s .ny in
+    Became back nx ny f e (face a d (faceOf s a d) nx ny (seen back nx ny post) (seen back nx ny f))
+
+abbrev pub Bounded : Settings → Bool → List ℕ → List ℕ → List ℕ → Type 0
+Bounded s back post f e =
+    let nx = s .nx in
+    let ny = s .ny in
+    Became back nx ny f e (bounded s (seen back nx ny post) (seen back nx ny f))

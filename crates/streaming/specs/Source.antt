@@ -1,5 +1,4 @@
 -- Over Periodic, NoSlip and Symmetry every final entry is a copy: the post-collision entry that it comes from, and the final entry that one goes to.
--- Assumes nothing.
 use mathlib.Core.Bool.{cond}
 use Prim.Native.Nat.{ℕ, _<_}
 use Rattle.lattice.specs.Lattice.{Axis, X, Y, OPP}
@@ -9,7 +8,7 @@ use Rattle.settings.specs.declared.Face.{Face}
 use Rattle.settings.specs.declared.Face.the-variants.{Periodic}
 use Rattle.settings.specs.declared.Settings.{Settings}
 use Rattle.settings.specs.Tests.{isPeriodic, isSymmetry}
-use Rattle.streaming.specs.Steps.{part, against, moved}
+use Rattle.streaming.specs.Travel.{part, against, moved}
 use Rattle.streaming.specs.Faces.{Side, min, max, fed}
 
 -- ---- entries

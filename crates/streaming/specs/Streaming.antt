@@ -1,5 +1,4 @@
 -- Streaming with faces: the rule, and the outcome of the operation.
--- Assumes nothing.
 use mathlib.Core.List.{List}
 use Prim.Native.Nat.{ℕ}
 use lib.ListN.{length}
@@ -8,7 +7,7 @@ use Rattle.grid.specs.Grid.{Field, fieldOf, bufferOf}
 use Rattle.settings.specs.declared.Settings.{Settings}
 use Rattle.settings.specs.Refusals.{refusal, streamWithFaces}
 use Rattle.settings.specs.Outcome.{Written, written}
-use Rattle.streaming.specs.Steps.{streamed}
+use Rattle.streaming.specs.Travel.{streamed}
 use Rattle.streaming.specs.Faces.{min, max, face}
 
 -- the faces in their order, from the post-collision field and the field before them: a later face writes over an earlier one

@@ -1,5 +1,4 @@
 -- `streaming::apply_boundaries` meets its contract: each face from the field before it, in the order of the rules.
--- Assumes nothing.
 use mathlib.Core.Path.{_∙_}
 use borrow.Author.Needs.{needs}
 use Rattle.grid.proofs.Telling.{keeps-then}

@@ -1,5 +1,4 @@
 -- `streaming::carry` meets its contract: the faces after streaming, and a buffer is told by its field.
--- Assumes nothing.
 use borrow.Author.Needs.{needs}
 use Rattle.number.proofs.Joined.{plain-left, plain-right}
 use Rattle.streaming.specs.Turned.{seen}
