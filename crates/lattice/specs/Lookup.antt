@@ -32,8 +32,3 @@ dirIndexOf a b = lookup 0 9 a b
 unfoldable pub mirror : Axis → ℕ → ℕ
 mirror X i = dirIndexOf (negℤ (E i X)) (E i Y) .direction
 mirror Y i = dirIndexOf (E i X) (negℤ (E i Y)) .direction
-
--- the code's number for an axis: 0 for x, any other for y
-abbrev pub axisOf : ℕ → Axis
-axisOf zero = X
-axisOf (suc a) = Y
