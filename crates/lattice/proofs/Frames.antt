@@ -6,8 +6,11 @@ use mir.Syntax.{w32}
 use mir.Val.{toZ, ofZ}
 use Rattle.number.specs.Number.{_⊕_, _⊗_}
 use Rattle.lattice.specs.declared.Frame.{Frame}
-use Rattle.lattice.specs.Lattice.{Axis, X, Y}
-use Rattle.lattice.specs.Sides.{Side, Min, Max, sign, normal, tangent, frameOf, along}
+use Rattle.lattice.specs.declared.Axis.{Axis}
+use Rattle.lattice.specs.declared.Axis.the-variants.{X, Y}
+use Rattle.lattice.specs.declared.Side.{Side}
+use Rattle.lattice.specs.declared.Side.the-variants.{Min, Max}
+use Rattle.lattice.specs.Sides.{sign, normal, tangent, frameOf, along}
 
 -- a sign is read back from its bits
 pub kept : (s : Side) {z : ℤ} → z ≡ sign s → toZ w32 (ofZ w32 z) ≡ sign s

@@ -7,7 +7,9 @@ use lib.Dec.{eqb}
 use lib.ListN.{getD}
 use lib.IntN.{ℤ, pos, negsuc, negℤ}
 use Rattle.lattice.specs.declared.Found.{Found}
-use Rattle.lattice.specs.Lattice.{Axis, X, Y, directions, E}
+use Rattle.lattice.specs.declared.Axis.{Axis}
+use Rattle.lattice.specs.declared.Axis.the-variants.{X, Y}
+use Rattle.lattice.specs.Lattice.{directions, E}
 
 abbrev pub sameℤ : ℤ → ℤ → Bool
 sameℤ (pos m) (pos n) = eqb m n

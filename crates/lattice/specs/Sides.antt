@@ -4,10 +4,12 @@ use Prim.Native.Nat.{ℕ, zero, suc}
 use lib.IntN.{ℤ, pos, negsuc, _+ℤ_, _*ℤ_}
 use lib.Ieee.{Float, binary64, ofInt}
 use Rattle.number.specs.Number.{_⊕_, _⊗_}
-use Rattle.lattice.specs.Lattice.{Axis, X, Y, E}
+use Rattle.lattice.specs.declared.Axis.{Axis}
+use Rattle.lattice.specs.declared.Axis.the-variants.{X, Y}
+use Rattle.lattice.specs.Lattice.{E}
 use Rattle.lattice.specs.declared.Frame.{Frame}
-pub use Rattle.lattice.specs.declared.Side.{Side}
-pub use Rattle.lattice.specs.declared.Side.the-variants.{Min, Max}
+use Rattle.lattice.specs.declared.Side.{Side}
+use Rattle.lattice.specs.declared.Side.the-variants.{Min, Max}
 
 -- THE INWARD NORMAL n, component by component: (1, 0), (-1, 0), (0, 1) and (0, -1)
 abbrev pub sign : Side → ℤ

@@ -5,8 +5,9 @@ use mir.Syntax.{w32}
 use mir.Val.{toZ, ofZ}
 use borrow.Author.Needs.{needs}
 use Rattle.lattice.specs.declared.Frame.{Frame}
-use Rattle.lattice.specs.Lattice.{X, Y}
-use Rattle.lattice.specs.Sides.{Side, sign, frameOf}
+use Rattle.lattice.specs.declared.Axis.the-variants.{X, Y}
+use Rattle.lattice.specs.declared.Side.{Side}
+use Rattle.lattice.specs.Sides.{sign, frameOf}
 use Rattle.lattice.proofs.Frames.{kept}
 use Rattle.lattice.proofs.frame_of.Tie as tie
 use Rattle.lattice.proofs.frame_of.Statement.{statement}

@@ -13,7 +13,9 @@ use borrow.Author.Tests.{ltb-true}
 use Rattle.number.specs.Nine.{nine}
 use Rattle.number.proofs.Nine.{all-nine}
 use Rattle.lattice.specs.declared.Found.{Found}
-use Rattle.lattice.specs.Lattice.{Axis, X, Y, directions, E}
+use Rattle.lattice.specs.declared.Axis.{Axis}
+use Rattle.lattice.specs.declared.Axis.the-variants.{X, Y}
+use Rattle.lattice.specs.Lattice.{directions, E}
 use Rattle.lattice.specs.Lookup.{isRow, lookup, dirIndexOf, mirror}
 use Rattle.lattice.proofs.Tables.{mirror-small}
 use Rattle.lattice.proofs.mirror_index.Statement.{statement}
