@@ -1,18 +1,17 @@
 -- Streaming and the four faces together: fields that the code reached one after the other are the rule's, and a buffer is told by its field.
 use mathlib.Core.Path.{_≡_, refl, sym, ap, _∙_}
-use mathlib.Core.Bool.{Bool, false, _||_}
+use mathlib.Core.Bool.{Bool, false}
 use mathlib.Core.List.{List}
 use Prim.Native.Nat.{ℕ, _*_}
 use lib.ListN.{length}
-use Rattle.lattice.specs.Lattice.{X, Y}
+use Rattle.lattice.specs.declared.Axis.the-variants.{X, Y}
+use Rattle.lattice.specs.declared.Side.the-variants.{Min, Max}
 use Rattle.grid.specs.Grid.{Field, fieldOf, Same}
 use Rattle.grid.proofs.Fields.{same-refl, same-trans, buffer-length, field-of-buffer, is-buffer}
 use Rattle.settings.specs.declared.Settings.{Settings}
-use Rattle.settings.specs.Tests.{drives, driven}
-use Rattle.settings.proofs.Laws.{or-left, or-right}
 use Rattle.streaming.specs.Travel.{streamed}
 use Rattle.streaming.specs.Rows.{Lent, Became}
-use Rattle.streaming.specs.Faces.{min, max, face}
+use Rattle.streaming.specs.Faces.{face}
 use Rattle.streaming.specs.Streaming.{bounded, next, nextBuffer}
 use Rattle.streaming.specs.Turned.{facing, turned, seen, carried}
 use Rattle.streaming.proofs.Turned.{facing-small, facing-twice}
@@ -30,45 +29,27 @@ module _ (back : Bool) (s : Settings) (post : Field) where
 
   -- each face from the buffer before it
   pub four-faces : (f0 f1 f2 f3 f4 : List ℕ)
-      → Then f0 f1 (face X min (s .«x_min») (s .nx) (s .ny) post)
-      → Then f1 f2 (face X max (s .«x_max») (s .nx) (s .ny) post)
-      → Then f2 f3 (face Y min (s .«y_min») (s .nx) (s .ny) post)
-      → Then f3 f4 (face Y max (s .«y_max») (s .nx) (s .ny) post)
+      → Then f0 f1 (face X Min (s .«x_min») (s .nx) (s .ny) post)
+      → Then f1 f2 (face X Max (s .«x_max») (s .nx) (s .ny) post)
+      → Then f2 f3 (face Y Min (s .«y_min») (s .nx) (s .ny) post)
+      → Then f3 f4 (face Y Max (s .«y_max») (s .nx) (s .ny) post)
       → Then f0 f4 (bounded s post)
   four-faces f0 f1 f2 f3 f4 b1 b2 b3 b4 =
-      let t2 = same-trans (b2 .field) (face-same X max (s .«x_max») same-refl (b1 .field)) in
-      let t3 = same-trans (b3 .field) (face-same Y min (s .«y_min») same-refl t2) in
+      let t2 = same-trans (b2 .field) (face-same X Max (s .«x_max») same-refl (b1 .field)) in
+      let t3 = same-trans (b3 .field) (face-same Y Min (s .«y_min») same-refl t2) in
       record {
         size = b4 .size ∙ b3 .size ∙ b2 .size ∙ b1 .size;
-        field = same-trans (b4 .field) (face-same Y max (s .«y_max») same-refl t3);
+        field = same-trans (b4 .field) (face-same Y Max (s .«y_max») same-refl t3);
       }
 
   -- the faces after streaming
   pub then-faces : (f0 f1 f2 : List ℕ) → Became back (s .nx) (s .ny) f0 f1 (streamed (s .nx) (s .ny) post) → Then f1 f2 (bounded s post) → Became back (s .nx) (s .ny) f0 f2 (next s post)
   unfolding next
   then-faces f0 f1 f2 b1 b2 =
-      let t1 = face-same X min (s .«x_min») same-refl (b1 .field) in
-      let t2 = face-same X max (s .«x_max») same-refl t1 in
-      let t3 = face-same Y min (s .«y_min») same-refl t2 in
-      record { size = b2 .size ∙ b1 .size; field = same-trans (b2 .field) (face-same Y max (s .«y_max») same-refl t3) }
-
--- no face is driven
-pub record Undriven (s : Settings) : Type 0 where
-  pub x-min : drives (s .«x_min») ≡ false
-  pub x-max : drives (s .«x_max») ≡ false
-  pub y-min : drives (s .«y_min») ≡ false
-  pub y-max : drives (s .«y_max») ≡ false
-
-pub undriven : (s : Settings) → driven s ≡ false → Undriven s
-unfolding driven
-undriven s e =
-    let a = drives (s .«x_min») in
-    let b = drives (s .«x_max») in
-    let c = drives (s .«y_min») in
-    let d = drives (s .«y_max») in
-    let abc = or-left (a || b || c) d e in
-    let ab = or-left (a || b) c abc in
-    record { x-min = or-left a b ab; x-max = or-right a b ab; y-min = or-right (a || b) c abc; y-max = or-right (a || b || c) d e }
+      let t1 = face-same X Min (s .«x_min») same-refl (b1 .field) in
+      let t2 = face-same X Max (s .«x_max») same-refl t1 in
+      let t3 = face-same Y Min (s .«y_min») same-refl t2 in
+      record { size = b2 .size ∙ b1 .size; field = same-trans (b2 .field) (face-same Y Max (s .«y_max») same-refl t3) }
 
 -- ---- the buffer
 

@@ -9,8 +9,13 @@ use lib.Ieee.{ofBits, eq, ne}
 use borrow.Author.Tests.{eqb-true, eqb-false}
 use Rattle.number.specs.Number.{valueOf, c0}
 use Rattle.number.proofs.Nine.{nine-of}
-use Rattle.lattice.specs.Lattice.{Axis, X, Y, OPP}
+use Rattle.lattice.specs.declared.Axis.{Axis}
+use Rattle.lattice.specs.declared.Axis.the-variants.{X, Y}
+use Rattle.lattice.specs.declared.Side.{Side}
+use Rattle.lattice.specs.declared.Side.the-variants.{Min, Max}
+use Rattle.lattice.specs.Lattice.{OPP}
 use Rattle.lattice.specs.Lookup.{mirror}
+use Rattle.lattice.specs.Sides.{incoming}
 use Rattle.lattice.proofs.Tables.{opposite-small, mirror-small}
 use Rattle.grid.specs.Grid.{Field, fieldOf, Same}
 use Rattle.grid.proofs.Radix.{within, low-inj, high-inj}
@@ -18,10 +23,9 @@ use Rattle.settings.specs.declared.Face.{Face}
 use Rattle.settings.specs.declared.Face.the-variants.{Periodic, NoSlip, MovingWall, Symmetry, Velocity, Pressure}
 use Rattle.streaming.specs.declared.edge.Names.{Names}
 use Rattle.streaming.specs.declared.entries.Entries.{Entries}
-use Rattle.streaming.specs.Travel.{part}
 use Rattle.streaming.specs.Turned.{facing, seen}
 use Rattle.streaming.specs.Rows.{Became}
-use Rattle.streaming.specs.Faces.{Side, min, max, sizeOf, coordOf, onFace, incoming, fed, cellAt, moving, pushed, walled, names, zouHeAt, takes, face}
+use Rattle.streaming.specs.Faces.{sizeOf, coordOf, onFace, fed, cellAt, moving, pushed, walled, names, zouHeAt, takes, face}
 use Rattle.streaming.specs.Lines.{lineOf, spot, planesOf, entriesOf, alone, Along}
 use Rattle.streaming.proofs.Directions.{comes-in, sound, One, is-n, is-np, is-nm, one-of, none-of, other-facing}
 
@@ -38,21 +42,21 @@ record At (a : Axis) (s : Side) (nx ny x y k : ℕ) : Type 0 where
   cell : x + y * nx ≡ spot (lineOf a s nx ny) k
 
 on-line : (a : Axis) (s : Side) (nx ny x y : ℕ) → x < nx → y < ny → onFace s (sizeOf a nx ny) (coordOf a x y) ≡ true → At a s nx ny x y (across a x y)
-on-line X min nx ny x y hx hy e = let z = eqb-true x 0 e in record { below = hy; cell = rw z }
-on-line X max nx ny x y hx hy e = let z = eqb-true (x + 1) nx e in record { below = hy; cell = omega arith }
-on-line Y min nx ny x y hx hy e = let z = eqb-true y 0 e in record { below = hx; cell = rw z (omega arith) }
-on-line Y max nx ny x y hx hy e =
+on-line X Min nx ny x y hx hy e = let z = eqb-true x 0 e in record { below = hy; cell = rw z }
+on-line X Max nx ny x y hx hy e = let z = eqb-true (x + 1) nx e in record { below = hy; cell = omega arith }
+on-line Y Min nx ny x y hx hy e = let z = eqb-true y 0 e in record { below = hx; cell = rw z (omega arith) }
+on-line Y Max nx ny x y hx hy e =
     let z = eqb-true (y + 1) ny e in
     let p : y ≡ ny - 1 = omega arith in
     record { below = hx; cell = ap (λ (t : ℕ). x + t * nx) p ∙ omega arith }
 
 off-line : (a : Axis) (s : Side) (nx ny x y : ℕ) → x < nx → y < ny → onFace s (sizeOf a nx ny) (coordOf a x y) ≡ false → (k : ℕ) → At a s nx ny x y k → ⊥
-off-line X min nx ny x y hx hy e k w = eqb-false x 0 e (low-inj nx x y 0 k hx (omega arith) (w .cell))
-off-line X max nx ny x y hx hy e k w =
+off-line X Min nx ny x y hx hy e k w = eqb-false x 0 e (low-inj nx x y 0 k hx (omega arith) (w .cell))
+off-line X Max nx ny x y hx hy e k w =
     let q = low-inj nx x y (nx - 1) k hx (omega arith) (w .cell) in
     eqb-false (x + 1) nx e (omega arith)
-off-line Y min nx ny x y hx hy e k w = eqb-false y 0 e (high-inj nx x y k 0 hx (w .below) (w .cell ∙ omega arith))
-off-line Y max nx ny x y hx hy e k w =
+off-line Y Min nx ny x y hx hy e k w = eqb-false y 0 e (high-inj nx x y k 0 hx (w .below) (w .cell ∙ omega arith))
+off-line Y Max nx ny x y hx hy e k w =
     let q = high-inj nx x y k (ny - 1) hx (w .below) (w .cell ∙ omega arith) in
     eqb-false (y + 1) ny e (omega arith)
 
@@ -135,7 +139,7 @@ module _ (back : Bool) (a : Axis) (s : Side) (k : Face) (nx ny : ℕ) (post f e 
       let l = lineOf a s nx ny in
       Along f e (nx * ny) l (planesOf (facing back) (names a s)) (l .count) (λ j. taken (spot l j))
 
-  at-cell : Settled → (x y i : ℕ) → x < nx → y < ny → i < 9 → (p q : Bool) → incoming s (part a i) ≡ p → onFace s (sizeOf a nx ny) (coordOf a x y) ≡ q
+  at-cell : Settled → (x y i : ℕ) → x < nx → y < ny → i < 9 → (p q : Bool) → incoming a s i ≡ p → onFace s (sizeOf a nx ny) (coordOf a x y) ≡ q
       → seen back nx ny e x y i ≡ cond (p && q) (takes a s k (seen back nx ny post) (seen back nx ny f) x y i) (seen back nx ny f x y i)
   unfolding fieldOf
   at-cell w x y i hx hy hi false q ep eq =
@@ -159,5 +163,5 @@ module _ (back : Bool) (a : Axis) (s : Side) (k : Face) (nx ny : ℕ) (post f e 
       rw is
       (record {
         size = w .size;
-        field = record { here = λ x y i hx hy hi. at-cell w x y i hx hy hi (incoming s (part a i)) (onFace s (sizeOf a nx ny) (coordOf a x y)) refl refl };
+        field = record { here = λ x y i hx hy hi. at-cell w x y i hx hy hi (incoming a s i) (onFace s (sizeOf a nx ny) (coordOf a x y)) refl refl };
       })

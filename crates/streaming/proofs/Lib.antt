@@ -7,5 +7,6 @@ pub mod Faces
 pub mod Carried
 pub mod One
 pub mod Dirs
+pub mod Sides
 pub mod Source
 pub mod Divisor

@@ -9,23 +9,25 @@ use lib.ListN.{length, getD, set, length-set}
 use lib.Seq.{getD-set-same, getD-set-other}
 use Rattle.number.specs.Number.{valueOf}
 use Rattle.number.specs.Nine.{nine}
-use Rattle.lattice.specs.Lattice.{Axis, X, Y}
+use Rattle.lattice.specs.declared.Axis.{Axis}
+use Rattle.lattice.specs.declared.Axis.the-variants.{X, Y}
+use Rattle.lattice.specs.declared.Side.{Side}
+use Rattle.lattice.specs.declared.Side.the-variants.{Min, Max}
 use Rattle.grid.specs.Grid.{Grid, Holds, cellOf}
 use Rattle.grid.proofs.Radix.{within, low-inj, high-inj, cell-in}
 use Rattle.streaming.specs.declared.edge.Line.{Line}
 use Rattle.streaming.specs.declared.edge.Planes.{Planes}
 use Rattle.streaming.specs.declared.entries.Entries.{Entries}
-use Rattle.streaming.specs.Faces.{Side, min, max}
 use Rattle.streaming.specs.Lines.{lineOf, spot, Inside, entriesAt, Apart, Changed, Along}
 
 -- ---- where the cells of a face stand
 
 pub line-inside : (a : Axis) (s : Side) (nx ny : ℕ) → Grid nx ny → Inside (lineOf a s nx ny) (nx * ny)
-line-inside X min nx ny g = record { few = g .few; apart = g .x-some; cell = λ k h. within 0 k nx ny (g .x-some) h }
-line-inside X max nx ny g = record { few = g .few; apart = g .x-some; cell = λ k h. within (nx - 1) k nx ny (omega arith) h }
-line-inside Y min nx ny g =
+line-inside X Min nx ny g = record { few = g .few; apart = g .x-some; cell = λ k h. within 0 k nx ny (g .x-some) h }
+line-inside X Max nx ny g = record { few = g .few; apart = g .x-some; cell = λ k h. within (nx - 1) k nx ny (omega arith) h }
+line-inside Y Min nx ny g =
     record { few = g .few; apart = omega arith; cell = λ k h. omega (arith, within k 0 nx ny h (g .y-some)) }
-line-inside Y max nx ny g =
+line-inside Y Max nx ny g =
     record { few = g .few; apart = omega arith; cell = λ k h. omega (arith, within k (ny - 1) nx ny h (omega arith)) }
 
 -- no cell of a line comes twice

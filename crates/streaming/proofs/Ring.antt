@@ -3,7 +3,7 @@ use mathlib.Core.Path.{_≡_, ap, _∙_}
 use Prim.Native.Nat.{ℕ, _+_, _-_, _%_, _≤_, _<_}
 use native.Mathlib.Nat.{mod-eq-of-lt, mod-eq-sub-mod, mod-lt, mod-add-mod, add-mod-right}
 use native.Mathlib.Omega.{arith}
-use Rattle.lattice.specs.Lattice.{X, Y}
+use Rattle.lattice.specs.declared.Axis.the-variants.{X, Y}
 use Rattle.grid.specs.Grid.{Field}
 use Rattle.streaming.specs.Travel.{Step, stay, up, down, part, against, turn, moved, streamed}
 

@@ -5,7 +5,7 @@ use mathlib.Core.List.{List}
 use Prim.Native.Nat.{ℕ, _+_, _*_, _/_, _%_, _≤_}
 use lib.ListN.{length, getD}
 use Rattle.grid.specs.Grid.{Grid, Field, Same}
-use Rattle.streaming.specs.Travel.{turn}
+use Rattle.streaming.specs.Travel.{turn, streamed}
 use Rattle.streaming.specs.Turned.{seen}
 use Rattle.streaming.specs.declared.travel.Shift.{Shift}
 
@@ -19,6 +19,10 @@ pub record Lent (nx ny : ℕ) (src dst : List ℕ) : Type 0 where
 pub record Became (back : Bool) (nx ny : ℕ) (d e : List ℕ) (p : Field) : Type 0 where
   pub size : length e ≡ length d
   pub field : Same nx ny (seen back nx ny e) p
+
+-- streaming src has made e of it
+abbrev pub Streamed : Bool → ℕ → ℕ → List ℕ → List ℕ → List ℕ → Type 0
+Streamed back nx ny src d e = Became back nx ny d e (streamed nx ny (seen back nx ny src))
 
 -- ---- rows and planes that are turned
 

@@ -1,21 +1,23 @@
 -- Steps along the axes of a grid, and streaming, which wraps on both.
 use Prim.Native.Nat.{ℕ, zero, suc, _+_, _-_, _%_}
 use lib.IntN.{ℤ, pos, negsuc}
-use Rattle.lattice.specs.Lattice.{Axis, X, Y, E}
+use Rattle.lattice.specs.declared.Axis.{Axis}
+use Rattle.lattice.specs.declared.Axis.the-variants.{X, Y}
+use Rattle.lattice.specs.Lattice.{E}
 use Rattle.grid.specs.Grid.{Field}
 
 -- a component of a direction as a step along its axis: 0, +1 or -1
 pub data Step : Type 0 where
   stay up down : Step
 
-abbrev pub stepAlong : ℤ → Step
-stepAlong (pos zero) = stay
-stepAlong (pos (suc n)) = up
-stepAlong (negsuc n) = down
+abbrev pub stepBy : ℤ → Step
+stepBy (pos zero) = stay
+stepBy (pos (suc n)) = up
+stepBy (negsuc n) = down
 
 -- the step of direction i along an axis
 abbrev pub part : Axis → ℕ → Step
-part a i = stepAlong (E i a)
+part a i = stepBy (E i a)
 
 -- the step back
 abbrev pub against : Step → Step

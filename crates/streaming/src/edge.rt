@@ -1,50 +1,15 @@
 // Where a face is: its cells along an edge of the grid, its directions, and the planes that come in through it.
-// An axis is 0 for x and 1 for y, a side 0 for min and 1 for max.
 use crate::travel;
+use lattice::Axis;
+use lattice::Side;
 ghost use mathlib.Core.Path.{_≡_};
 ghost use Prim.Native.Nat.{_*_, _<_};
 ghost use Rattle.lattice.specs.Lattice.{OPP};
-ghost use Rattle.lattice.specs.Lookup.{axisOf, mirror};
+ghost use Rattle.lattice.specs.Lookup.{mirror};
 ghost use Rattle.grid.specs.Grid.{Grid};
 ghost use Rattle.streaming.specs.Turned as Turned;
 ghost use Rattle.streaming.specs.Faces as Faces;
-ghost use Rattle.streaming.specs.Lines.{sideOf, frameOf, lineOf, Inside, planesOf, each, Small, Sound, edgeOf};
-
-// The inward normal and the tangent of a face.
-pub struct Frame {
-    pub n0: i32,
-    pub n1: i32,
-    pub t0: i32,
-    pub t1: i32,
-}
-
-// The component of the inward normal across the face.
-fn sign(side: usize) -> i32
-    ensures { λ r. ⌜ r ≡ Faces.sign (sideOf side) ⌝ }
-{
-    if side == 0 { 1 } else { -1 }
-}
-
-pub fn frame_of(axis: usize, side: usize) -> Frame
-    ensures { λ r. ⌜ r ≡ frameOf (axisOf axis) (sideOf side) ⌝ }
-{
-    let s = sign(side);
-    if axis == 0 {
-        Frame {
-            n0: s,
-            n1: 0,
-            t0: 0,
-            t1: 1,
-        }
-    } else {
-        Frame {
-            n0: 0,
-            n1: s,
-            t0: 1,
-            t1: 0,
-        }
-    }
-}
+ghost use Rattle.streaming.specs.Lines.{lineOf, planesOf, each, Small, Sound, edgeOf, Built};
 
 // The directions n, t, -t, n + t and n - t of a face: n, n + t and n - t come in.
 pub struct Names {
@@ -55,10 +20,10 @@ pub struct Names {
     pub nm: usize,
 }
 
-fn names_of(axis: usize, side: usize) -> Names
-    ensures { λ r. ⌜ (r ≡ Faces.names (axisOf axis) (sideOf side)) × Sound r ⌝ }
+fn names_of(axis: Axis, side: Side) -> Names
+    ensures { λ r. ⌜ (r ≡ Faces.names axis side) × Sound r ⌝ }
 {
-    let g = frame_of(axis, side);
+    let g = lattice::frame_of(axis, side);
     let n0 = g.n0;
     let n1 = g.n1;
     let t0 = g.t0;
@@ -79,22 +44,27 @@ pub struct Line {
     pub count: usize,
 }
 
-fn line_of(axis: usize, side: usize, nx: usize, ny: usize) -> Line
+fn line_of(axis: Axis, side: Side, nx: usize, ny: usize) -> Line
     requires { ⌜ Grid nx ny ⌝ }
-    ensures { λ r. ⌜ r ≡ lineOf (axisOf axis) (sideOf side) nx ny ⌝ }
+    ensures { λ r. ⌜ r ≡ lineOf axis side nx ny ⌝ }
 {
-    if axis == 0 {
-        Line {
-            start: if side == 0 { 0 } else { nx - 1 },
+    match axis {
+        Axis::X => Line {
+            start: match side {
+                Side::Min => 0,
+                Side::Max => nx - 1,
+            },
             stride: nx,
             count: ny,
-        }
-    } else {
-        Line {
-            start: if side == 0 { 0 } else { (ny - 1) * nx },
+        },
+        Axis::Y => Line {
+            start: match side {
+                Side::Min => 0,
+                Side::Max => (ny - 1) * nx,
+            },
             stride: 1,
             count: nx,
-        }
+        },
     }
 }
 
@@ -118,9 +88,9 @@ fn opposites(d: Names) -> Planes
 }
 
 // The planes of the directions mirrored along an axis.
-fn mirrors(axis: usize, d: Names) -> Planes
+fn mirrors(axis: Axis, d: Names) -> Planes
     requires { ⌜ Sound d ⌝ }
-    ensures { λ r. ⌜ (r ≡ planesOf (mirror (axisOf axis)) d) × Small r ⌝ }
+    ensures { λ r. ⌜ (r ≡ planesOf (mirror axis) d) × Small r ⌝ }
 {
     Planes {
         n: lattice::mirror_index(d.n, axis),
@@ -144,8 +114,8 @@ fn faced(back: bool, p: Planes) -> Planes
 // A face as the work at its cells needs it: which it is, which way the travel goes, the cells of the grid and its own, its
 // directions; the planes that come in, those of their opposites, and those of their mirrors.
 pub struct Edge {
-    pub axis: usize,
-    pub side: usize,
+    pub axis: Axis,
+    pub side: Side,
     pub back: bool,
     pub cells: usize,
     pub line: Line,
@@ -155,9 +125,9 @@ pub struct Edge {
     pub mirrored: Planes,
 }
 
-pub fn edge_of(axis: usize, side: usize, back: bool, nx: usize, ny: usize) -> Edge
+pub fn edge_of(axis: Axis, side: Side, back: bool, nx: usize, ny: usize) -> Edge
     requires { ⌜ Grid nx ny ⌝ }
-    ensures { λ r. ⌜ r ≡ edgeOf axis side back nx ny ⌝ }
+    ensures { λ r. ⌜ (r ≡ edgeOf axis side back nx ny) × Built r ⌝ }
 {
     let d = names_of(axis, side);
     let three = Planes {

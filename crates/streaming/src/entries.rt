@@ -1,10 +1,11 @@
 // A cell's entries in the three planes that come in, read and written as patterns, so that every bit is kept.
+use crate::edge::Line;
 use crate::edge::Planes;
 ghost use mathlib.Core.Path.{_≡_};
 ghost use Prim.Native.Nat.{_+_, _*_, _<_};
-ghost use lib.ListN.{getD, set};
+ghost use lib.ListN.{length, getD, set};
 ghost use Rattle.grid.specs.Grid.{Holds};
-ghost use Rattle.streaming.specs.Lines.{entriesAt, Small, Apart, Changed};
+ghost use Rattle.streaming.specs.Lines.{Inside, entriesAt, Small, Apart, Changed, lineJoin};
 
 pub struct Entries {
     pub n: u64,
@@ -49,4 +50,18 @@ pub fn put(f: &mut [u64], n: usize, c: usize, p: Planes, v: Entries)
     set_entry(f, n, c, p.n, v.n);
     set_entry(f, n, c, p.np, v.np);
     set_entry(f, n, c, p.nm, v.nm);
+}
+
+// The raised patterns of plane i along a line, joined.
+pub fn line_joined(b: &[u64], n: usize, line: Line, i: usize) -> u64
+    requires { ⌜ Inside line n × (length (now b) ≡ 9 * n) × (i < 9) ⌝ }
+    ensures { λ r. ⌜ r ≡ lineJoin (now (b .entry)) n line i ⌝ }
+{
+    let mut bits = 0;
+    let mut k = 0;
+    while k < line.count {
+        bits = bits | number::raised(entry(b, n, line.start + k * line.stride, i));
+        k += 1;
+    }
+    bits
 }

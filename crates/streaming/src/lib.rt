@@ -7,30 +7,37 @@ mod walls;
 mod zou_he;
 use edge::Edge;
 use entries::Entries;
+use lattice::Axis;
+use lattice::Side;
 use settings::Face;
 use settings::Settings;
 use zou_he::ZouHe;
 ghost use mathlib.Core.Path.{_≡_};
 ghost use mathlib.Core.Bool.{true, false};
-ghost use Rattle.lattice.specs.Lookup.{axisOf};
-ghost use Rattle.grid.specs.Grid.{Holds};
+ghost use Prim.Native.Nat.{_*_};
+ghost use lib.ListN.{length};
+ghost use Rattle.grid.specs.Grid.{Grid, Holds};
 ghost use Rattle.settings.specs.Outcome.{Written};
-ghost use Rattle.settings.specs.Tests.{drives, driven};
+ghost use Rattle.settings.specs.Tests.{faceOf, drives, driven};
 ghost use Rattle.streaming.specs.Turned.{carried};
 ghost use Rattle.streaming.specs.Rows.{Lent};
-ghost use Rattle.streaming.specs.Lines.{sideOf, Built, takenAt, Faced, Bounded};
-ghost use Rattle.streaming.specs.Source.{faceOf};
+ghost use Rattle.streaming.specs.Lines.{Built, takenAt, Faced, Bounded, faceJoin, facesJoin, carriedJoin};
 ghost use Rattle.streaming.specs.Streaming.{streamedWithFaces};
 
 // ---- one face
 
-fn face_of(s: Settings, axis: usize, side: usize) -> Face
-    ensures { λ r. ⌜ r ≡ faceOf s (axisOf axis) (sideOf side) ⌝ }
+fn face_of(s: Settings, axis: Axis, side: Side) -> Face
+    ensures { λ r. ⌜ r ≡ faceOf s axis side ⌝ }
 {
-    if axis == 0 {
-        if side == 0 { s.x_min } else { s.x_max }
-    } else {
-        if side == 0 { s.y_min } else { s.y_max }
+    match axis {
+        Axis::X => match side {
+            Side::Min => s.x_min,
+            Side::Max => s.x_max,
+        },
+        Axis::Y => match side {
+            Side::Min => s.y_min,
+            Side::Max => s.y_max,
+        },
     }
 }
 
@@ -46,8 +53,11 @@ fn taken(e: Edge, kind: Face, c: usize, post: &[u64], f: &[u64]) -> Entries
         Face::MovingWall(u, v) => walls::bounce_back(e, u, v, c, post),
         Face::Symmetry => entries::entries_at(post, e.cells, c, e.mirrored),
         Face::Velocity(u, v) => {
-            let kind = zou_he::velocity(e.axis, e.side, u, v);
-            zou_he::zou_he(e.names, kind, grid::gather(f, e.cells, c))
+            let axis = e.axis;
+            let side = e.side;
+            let un = lattice::along_normal(axis, side, u, v);
+            let ut = lattice::along_tangent(axis, side, u, v);
+            zou_he::zou_he(e.names, ZouHe::Velocity(un, ut), grid::gather(f, e.cells, c))
         }
         Face::Pressure(rho) => {
             zou_he::zou_he(e.names, ZouHe::Pressure(rho), grid::gather(f, e.cells, c))
@@ -56,9 +66,9 @@ fn taken(e: Edge, kind: Face, c: usize, post: &[u64], f: &[u64]) -> Entries
 }
 
 // Applies one face, whichever of the four, along its cells.
-fn face(s: Settings, axis: usize, side: usize, back: bool, post: &[u64], f: &mut [u64])
+fn face(s: Settings, axis: Axis, side: Side, back: bool, post: &[u64], f: &mut [u64])
     requires { ⌜ Lent (s .nx) (s .ny) (now post) (now f) × (back ≡ true → driven s ≡ false) ⌝ }
-    ensures { λ _. ⌜ Faced s (axisOf axis) (sideOf side) back (now (post .entry)) (now (f .entry)) (now (f .exit)) ⌝ }
+    ensures { λ _. ⌜ Faced s axis side back (now (post .entry)) (now (f .entry)) (now (f .exit)) ⌝ }
 {
     let kind = face_of(s, axis, side);
     if settings::is_periodic(kind) {
@@ -81,21 +91,55 @@ fn apply_boundaries(s: Settings, back: bool, post: &[u64], f: &mut [u64])
     requires { ⌜ Lent (s .nx) (s .ny) (now post) (now f) × (back ≡ true → driven s ≡ false) ⌝ }
     ensures { λ _. ⌜ Bounded s back (now (post .entry)) (now (f .entry)) (now (f .exit)) ⌝ }
 {
-    face(s, 0, 0, back, post, f);
-    face(s, 0, 1, back, post, f);
-    face(s, 1, 0, back, post, f);
-    face(s, 1, 1, back, post, f);
+    face(s, Axis::X, Side::Min, back, post, f);
+    face(s, Axis::X, Side::Max, back, post, f);
+    face(s, Axis::Y, Side::Min, back, post, f);
+    face(s, Axis::Y, Side::Max, back, post, f);
+}
+
+// ---- what came in
+
+// What came in through a face: the raised patterns of its three planes along its cells, joined. A periodic face let nothing in that
+// streaming had not copied.
+fn face_joined(s: Settings, axis: Axis, side: Side, back: bool, f: &[u64]) -> u64
+    requires { ⌜ Grid (s .nx) (s .ny) × (length (now f) ≡ 9 * (s .nx * s .ny)) ⌝ }
+    ensures { λ r. ⌜ r ≡ faceJoin back s axis side (now (f .entry)) ⌝ }
+{
+    if settings::is_periodic(face_of(s, axis, side)) {
+        return 0;
+    }
+    let e = edge::edge_of(axis, side, back, s.nx, s.ny);
+    let n = entries::line_joined(f, e.cells, e.line, e.into.n);
+    let np = entries::line_joined(f, e.cells, e.line, e.into.np);
+    let nm = entries::line_joined(f, e.cells, e.line, e.into.nm);
+    n | np | nm
+}
+
+// The same of all four faces, after the last of them.
+fn faces_joined(s: Settings, back: bool, f: &[u64]) -> u64
+    requires { ⌜ Grid (s .nx) (s .ny) × (length (now f) ≡ 9 * (s .nx * s .ny)) ⌝ }
+    ensures { λ r. ⌜ r ≡ facesJoin back s (now (f .entry)) ⌝ }
+{
+    let x_min = face_joined(s, Axis::X, Side::Min, back, f);
+    let x_max = face_joined(s, Axis::X, Side::Max, back, f);
+    let y_min = face_joined(s, Axis::Y, Side::Min, back, f);
+    let y_max = face_joined(s, Axis::Y, Side::Max, back, f);
+    x_min | x_max | y_min | y_max
 }
 
 // ---- streaming with faces
 
-// Streams post into f and applies the faces: forward for each step of a run, and turned round for the reverse.
-pub fn carry(s: Settings, back: bool, post: &[u64], f: &mut [u64])
+// Streams post into f and applies the faces: forward for each step of a run, and turned round for the reverse. Answers the raised
+// patterns of what was streamed and of what came in, joined: clear only where every entry of f is finite.
+pub fn carry(s: Settings, back: bool, post: &[u64], f: &mut [u64]) -> u64
     requires { ⌜ Lent (s .nx) (s .ny) (now post) (now f) × (back ≡ true → driven s ≡ false) ⌝ }
-    ensures { λ _. ⌜ now (f .exit) ≡ carried back s (now (post .entry)) ⌝ }
+    ensures is { λ _. ⌜ now (f .exit) ≡ carried back s (now (post .entry)) ⌝ }
+    ensures joined { λ r. ⌜ r ≡ carriedJoin back s (now (post .entry)) ⌝ }
 {
-    travel::stream(back, s.nx, s.ny, post, f);
+    let streamed = travel::stream(back, s.nx, s.ny, post, f);
     apply_boundaries(s, back, post, f);
+    let came_in = faces_joined(s, back, f);
+    streamed | came_in
 }
 
 // Reads the post-collision buffer and makes f the next populations. A refused call leaves f as it was.

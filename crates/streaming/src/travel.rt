@@ -1,19 +1,16 @@
 // Streaming: every plane goes on by one step of its direction. A copy copies patterns, so it keeps every bit.
 // `back` turns the travel round: opposite directions change places, in what is read and in what is written. Where the faces lose
 // nothing, that is the way back.
+use lattice::Axis;
 ghost use mathlib.Core.Path.{_≡_};
-ghost use mathlib.Core.Bool.{true};
 ghost use Prim.Native.Nat.{_+_, _*_, _%_, _≤_, _<_};
-ghost use lib.ListN.{length, getD};
-ghost use Rattle.number.specs.Number.{plainOf};
-ghost use Rattle.lattice.specs.Lookup.{axisOf};
-ghost use Rattle.grid.specs.Grid.{Grid};
+ghost use lib.ListN.{length};
+ghost use Rattle.number.specs.Joined.{joinedTo};
 ghost use Rattle.grid.specs.Writes.{Wrote};
-ghost use Rattle.grid.specs.Plain.{AllPlain, Told};
+ghost use Rattle.grid.specs.Finite.{joinedBuffer};
 ghost use Rattle.streaming.specs.Turned as Turned;
-ghost use Rattle.streaming.specs.Turned.{seen};
-ghost use Rattle.streaming.specs.Travel.{part, against, far, turn, streamed};
-ghost use Rattle.streaming.specs.Rows.{Lent, Became, Reaches, turnedRow, turnedPlane};
+ghost use Rattle.streaming.specs.Travel.{part, against, far};
+ghost use Rattle.streaming.specs.Rows.{Lent, Streamed, Reaches, turnedRow, turnedPlane};
 
 // The direction that stands in i's place: i itself, or where the travel is turned round, its opposite.
 pub fn facing(back: bool, i: usize) -> usize
@@ -24,11 +21,11 @@ pub fn facing(back: bool, i: usize) -> usize
 }
 
 // Copies a row of n entries, turned by s: entry k is the source's entry (k + s) mod n, so that the row is two straight copies.
-// Answers their bits joined, as all that copies here does.
+// Answers their raised patterns joined, as all that copies here does: whether the next collision need look for a NaN.
 fn row(src: &[u64], from: usize, dst: &mut [u64], to: usize, n: usize, s: usize) -> u64
     requires { ⌜ (s ≤ n) × (from + n ≤ length (now src)) × (to + n ≤ length (now dst)) ⌝ }
     ensures wrote { λ _. ⌜ Wrote (now (dst .entry)) (now (dst .exit)) to n (turnedRow n s from (now (src .entry))) ⌝ }
-    ensures told { λ r. ⌜ Told r (now (dst .exit)) to n ⌝ }
+    ensures joined { λ r. ⌜ r ≡ joinedTo (turnedRow n s from (now (src .entry))) n ⌝ }
 {
     let m = n - s;
     let first = grid::copy(src, from + s, dst, to, m);
@@ -56,7 +53,7 @@ pub struct Shift {
 fn plane(t: Shift, base: usize, src: &[u64], dst: &mut [u64]) -> u64
     requires { ⌜ Reaches t base (now src) (now dst) ⌝ }
     ensures wrote { λ _. ⌜ Wrote (now (dst .entry)) (now (dst .exit)) base (t .nx * t .ny) (turnedPlane t base (now (src .entry))) ⌝ }
-    ensures told { λ r. ⌜ Told r (now (dst .exit)) base (t .nx * t .ny) ⌝ }
+    ensures joined { λ r. ⌜ r ≡ joinedTo (turnedPlane t base (now (src .entry))) (t .nx * t .ny) ⌝ }
 {
     let mut all = 0;
     let mut y = 0;
@@ -69,12 +66,12 @@ fn plane(t: Shift, base: usize, src: &[u64], dst: &mut [u64]) -> u64
     all
 }
 
-// One step of direction i back along an axis (0 for x, 1 for y), as places on around the side of n.
-fn step_back(i: usize, axis: usize, n: usize) -> usize
-    requires { ⌜ (i < 9) × (axis < 2) × (1 ≤ n) ⌝ }
-    ensures { λ r. ⌜ (r ≡ far (against (part (axisOf axis) i)) n) × (r ≤ n) ⌝ }
+// One step of direction i back along an axis, as places on around the side of n.
+fn step_back(i: usize, axis: Axis, n: usize) -> usize
+    requires { ⌜ (i < 9) × (1 ≤ n) ⌝ }
+    ensures { λ r. ⌜ (r ≡ far (against (part axis i)) n) × (r ≤ n) ⌝ }
 {
-    let e = lattice::E[i][axis];
+    let e = lattice::component(i, axis);
     if e == 0 {
         0
     } else if e == 1 {
@@ -87,16 +84,16 @@ fn step_back(i: usize, axis: usize, n: usize) -> usize
 // Streaming: the plane of each direction goes on by one step of it, wrapped on both axes. Turned round, it goes by its opposite's.
 pub fn stream(back: bool, nx: usize, ny: usize, src: &[u64], dst: &mut [u64]) -> u64
     requires { ⌜ Lent nx ny (now src) (now dst) ⌝ }
-    ensures became { λ _. ⌜ Became back nx ny (now (dst .entry)) (now (dst .exit)) (streamed nx ny (seen back nx ny (now (src .entry)))) ⌝ }
-    ensures told { λ r. ⌜ (plainOf r ≡ true → AllPlain (now (dst .exit))) ⌝ }
+    ensures became { λ _. ⌜ Streamed back nx ny (now (src .entry)) (now (dst .entry)) (now (dst .exit)) ⌝ }
+    ensures joined { λ r. ⌜ r ≡ joinedBuffer (now (dst .exit)) ⌝ }
 {
     let n = nx * ny;
     let mut all = 0;
     let mut j = 0;
     while j < 9 {
         let i = facing(back, j);
-        let sx = step_back(i, 0, nx);
-        let sy = step_back(i, 1, ny);
+        let sx = step_back(i, Axis::X, nx);
+        let sy = step_back(i, Axis::Y, ny);
         let bits = plane(Shift { nx, ny, sx, sy }, j * n, src, dst);
         all = all | bits;
         j += 1;

@@ -1,15 +1,12 @@
 // Zou-He velocity or pressure at one cell: the entries that come in, from the cell as it stands.
-use crate::edge;
 use crate::edge::Names;
 use crate::entries::Entries;
 ghost use mathlib.Core.Path.{_≡_};
-ghost use lib.Ieee.{binary64, ofInt};
-ghost use Rattle.number.specs.Number.{patternOf, _⊕_, _⊗_};
-ghost use Rattle.lattice.specs.Lookup.{axisOf};
+ghost use Rattle.number.specs.Number.{patternOf};
 ghost use Rattle.streaming.specs.Faces as Faces;
 ghost use Rattle.streaming.specs.Faces.{knownSum};
 ghost use Rattle.streaming.specs.Lines as Lines;
-ghost use Rattle.streaming.specs.Lines.{sideOf, entriesOf, Sound, velocityOf};
+ghost use Rattle.streaming.specs.Lines.{entriesOf, Sound};
 
 // What a Zou-He face prescribes: the velocity along n and t, or the density.
 pub enum ZouHe {
@@ -67,19 +64,4 @@ pub fn zou_he(d: Names, kind: ZouHe, f: [f64; 9]) -> Entries
         np: number::pattern(f_onp + rho * un / 6.0 + 0.5 * rho * ut - nt),
         nm: number::pattern(f_onm + rho * un / 6.0 - 0.5 * rho * ut + nt),
     }
-}
-
-// (u, v) along the vector (a, b).
-fn along(u: f64, v: f64, a: i32, b: i32) -> f64
-    ensures { λ r. ⌜ r ≡ u ⊗ ofInt binary64 a ⊕ v ⊗ ofInt binary64 b ⌝ }
-{
-    u * a as f64 + v * b as f64
-}
-
-// What a velocity face prescribes: (u, v) along its normal and its tangent.
-pub fn velocity(axis: usize, side: usize, u: f64, v: f64) -> ZouHe
-    ensures { λ r. ⌜ r ≡ velocityOf (axisOf axis) (sideOf side) u v ⌝ }
-{
-    let g = edge::frame_of(axis, side);
-    ZouHe::Velocity(along(u, v, g.n0, g.n1), along(u, v, g.t0, g.t1))
 }

@@ -6,12 +6,17 @@ use mir.Syntax.{w32}
 use mir.Val.{toZ, ofZ, SFits}
 use borrow.Author.Needs.{needs}
 use Rattle.lattice.specs.declared.Found.{Found}
-use Rattle.lattice.specs.Lattice.{Axis, X, Y, directions}
-use Rattle.lattice.specs.Lookup.{axisOf, isRow, lookup, dirIndexOf}
-use Rattle.streaming.specs.declared.edge.Frame.{Frame}
+use Rattle.lattice.specs.declared.Axis.{Axis}
+use Rattle.lattice.specs.declared.Axis.the-variants.{X, Y}
+use Rattle.lattice.specs.declared.Side.{Side}
+use Rattle.lattice.specs.declared.Side.the-variants.{Min, Max}
+use Rattle.lattice.specs.declared.Frame.{Frame}
+use Rattle.lattice.specs.Lattice.{directions}
+use Rattle.lattice.specs.Lookup.{isRow, lookup, dirIndexOf}
+use Rattle.lattice.specs.Sides.{frameOf}
 use Rattle.streaming.specs.declared.edge.Names.{Names}
-use Rattle.streaming.specs.Faces.{Side, min, max, names}
-use Rattle.streaming.specs.Lines.{sideOf, frameOf, Sound}
+use Rattle.streaming.specs.Faces.{names}
+use Rattle.streaming.specs.Lines.{Sound}
 use Rattle.streaming.proofs.Directions.{sound}
 use Rattle.streaming.proofs.edge.names_of.Statement.{statement}
 use Rattle.streaming.proofs.edge.names_of.Tie as tie
@@ -30,10 +35,10 @@ record Fits (g : Frame) : Type 0 where
   nm1 : SFits w32 (kept (g .n1) -ℤ kept (g .t1))
 
 fits : (a : Axis) (s : Side) → Fits (frameOf a s)
-fits X min = search arith
-fits X max = search arith
-fits Y min = search arith
-fits Y max = search arith
+fits X Min = search arith
+fits X Max = search arith
+fits Y Min = search arith
+fits Y Max = search arith
 
 -- what the code looks up, and the names that it makes of it
 abbrev looked : ℤ → ℤ → Found
@@ -54,16 +59,16 @@ coded g =
 
 coded-names : (a : Axis) (s : Side) → coded (frameOf a s) ≡ names a s
 unfolding directions names lookup isRow
-coded-names X min = refl
-coded-names X max = refl
-coded-names Y min = refl
-coded-names Y max = refl
+coded-names X Min = refl
+coded-names X Max = refl
+coded-names Y Min = refl
+coded-names Y Max = refl
 
 found : (a : Axis) (s : Side) {g : Frame} {d : Names} → g ≡ frameOf a s → d ≡ coded g → (d ≡ names a s) × Sound d
 found a s e i = let is = i ∙ ap coded e ∙ coded-names a s in (is, rw is (sound a s))
 
 fitting : (g : tie.After-frame-of) → Fits (g .frame-of .result)
-fitting g = rw (g .frame-of .ensures) (fits (axisOf (g .before .args .axis)) (sideOf (g .before .args .side)))
+fitting g = rw (g .frame-of .ensures) (fits (g .before .args .axis) (g .before .args .side))
 
 frame-of-requires : tie.Need-frame-of-requires
 frame-of-requires c κs = search needs
@@ -109,7 +114,7 @@ returns c =
     let d1 = d2 .before in
     let g = d1 .before .before .before .before .before in
     let a = g .before .args in
-    found (axisOf (a .axis)) (sideOf (a .side)) (g .frame-of .ensures)
+    found (a .axis) (a .side) (g .frame-of .ensures)
     (λ x. five (d1 .dir-index .ensures x) (d2 .dir-index2 .ensures x) (d3 .dir-index3 .ensures x) (d4 .dir-index4 .ensures x) (c .dir-index5 .ensures x))
 
 pub names-of-spec : {M : Type 1} → statement M

@@ -18,7 +18,7 @@ same-length c = search needs
 
 returns : tie.Need-returns
 returns c =
-    let s3 = c .before .before .before in
+    let s3 = c .before .before in
     let s2 = s3 .before .before .before .before in
     let s1 = s2 .before .before .before .before in
     let start = s1 .before .before .before in
