@@ -1,17 +1,20 @@
 -- Streaming and the four faces together: fields that the code reached one after the other are the rule's, and a buffer is told by its field.
-use mathlib.Core.Path.{_≡_, refl, sym, ap, _∙_}
+use mathlib.Core.Path.{_≡_, refl, sym, ap, ap₂, _∙_}
 use mathlib.Core.Bool.{Bool, false}
 use mathlib.Core.List.{List}
 use Prim.Native.Nat.{ℕ, _*_}
+use lib.Bits.{bitOr}
 use lib.ListN.{length}
 use Rattle.lattice.specs.declared.Axis.the-variants.{X, Y}
 use Rattle.lattice.specs.declared.Side.the-variants.{Min, Max}
-use Rattle.grid.specs.Grid.{Field, fieldOf, Same}
+use Rattle.grid.specs.Grid.{Field, fieldOf, bufferOf, Same}
+use Rattle.grid.specs.Finite.{joinedBuffer}
 use Rattle.grid.proofs.Fields.{same-refl, same-trans, buffer-length, field-of-buffer, is-buffer}
 use Rattle.settings.specs.declared.Settings.{Settings}
 use Rattle.streaming.specs.Travel.{streamed}
-use Rattle.streaming.specs.Rows.{Lent, Became}
+use Rattle.streaming.specs.Rows.{Lent, Became, Streamed}
 use Rattle.streaming.specs.Faces.{face}
+use Rattle.streaming.specs.Lines.{facesJoin, streamedBuffer, carriedJoin}
 use Rattle.streaming.specs.Streaming.{bounded, next, nextBuffer}
 use Rattle.streaming.specs.Turned.{facing, turned, seen, carried}
 use Rattle.streaming.proofs.Turned.{facing-small, facing-twice}
@@ -69,15 +72,25 @@ module _ (back : Bool) (s : Settings) (b : List ℕ) where
             ∙ ap (p x y) (facing-twice back i hi);
       }
 
-  -- a buffer with that field is the buffer
-  pub is-carried : (d e : List ℕ) → length d ≡ 9 * (s .nx * s .ny) → Became back (s .nx) (s .ny) d e (next s (seen back (s .nx) (s .ny) b)) → e ≡ carried back s b
-  unfolding carried
-  is-carried d e size w =
+  -- a buffer with a field seen so is that field's buffer, put back
+  as-buffer : (p : Field) (d e : List ℕ) → length d ≡ 9 * (s .nx * s .ny) → Became back (s .nx) (s .ny) d e p → e ≡ bufferOf (s .nx) (s .ny) (turned back p)
+  as-buffer p d e size w =
       is-buffer (s .nx) (s .ny) e _ (w .size ∙ size)
       (record {
         here = λ x y i hx hy hi.
             sym (ap (fieldOf (s .nx) (s .ny) e x y) (facing-twice back i hi)) ∙ w .field .here x y (facing back i) hx hy (facing-small back i hi);
       })
+
+  pub is-carried : (d e : List ℕ) → length d ≡ 9 * (s .nx * s .ny) → Became back (s .nx) (s .ny) d e (next s (seen back (s .nx) (s .ny) b)) → e ≡ carried back s b
+  unfolding carried
+  is-carried = as-buffer (next s (seen back (s .nx) (s .ny) b))
+
+  -- the joined bits, from what was streamed and what the faces let in
+  pub carried-joined : (d e g : List ℕ) {r q : ℕ} → length d ≡ 9 * (s .nx * s .ny) → Streamed back (s .nx) (s .ny) b d e → r ≡ joinedBuffer e → g ≡ carried back s b → q ≡ facesJoin back s g
+      → bitOr r q ≡ carriedJoin back s b
+  unfolding carriedJoin streamedBuffer
+  carried-joined d e g size w rs is qs =
+      ap₂ bitOr (rs ∙ ap joinedBuffer (as-buffer (streamed (s .nx) (s .ny) (seen back (s .nx) (s .ny) b)) d e size w)) (qs ∙ ap (facesJoin back s) is)
 
 -- forward it is the next population buffer
 pub carried-forward : (s : Settings) (post : List ℕ) → carried false s post ≡ nextBuffer s post

@@ -5,6 +5,7 @@ pub mod Directions
 pub mod Lines
 pub mod Faces
 pub mod Carried
+pub mod Finite
 pub mod One
 pub mod Dirs
 pub mod Sides

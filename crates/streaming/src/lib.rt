@@ -5,6 +5,7 @@ mod entries;
 mod travel;
 mod walls;
 mod zou_he;
+
 use edge::Edge;
 use entries::Entries;
 use lattice::Axis;
@@ -57,7 +58,11 @@ fn taken(e: Edge, kind: Face, c: usize, post: &[u64], f: &[u64]) -> Entries
             let side = e.side;
             let un = lattice::along_normal(axis, side, u, v);
             let ut = lattice::along_tangent(axis, side, u, v);
-            zou_he::zou_he(e.names, ZouHe::Velocity(un, ut), grid::gather(f, e.cells, c))
+            zou_he::zou_he(
+                e.names,
+                ZouHe::Velocity(un, ut),
+                grid::gather(f, e.cells, c),
+            )
         }
         Face::Pressure(rho) => {
             zou_he::zou_he(e.names, ZouHe::Pressure(rho), grid::gather(f, e.cells, c))
