@@ -6,10 +6,11 @@ use Prim.Native.Nat.{ℕ, suc, _≤_, _<_}
 use native.Mathlib.Decide.{decLe}
 use native.Mathlib.Omega.{arith}
 use lib.Dec.{eqb}
-use lib.Ieee.{Float}
 use lib.ListN.{length, take}
 use lib.Seq.{take-all, length-take-le}
 use borrow.Author.Tests.{lt-leb}
+use Rattle.lattice.specs.declared.Axis.{Axis}
+use Rattle.lattice.specs.declared.Side.{Side}
 use Rattle.settings.specs.declared.Face.{Face}
 use Rattle.settings.specs.declared.Face.the-variants.{Periodic, NoSlip, Symmetry}
 use Rattle.settings.specs.declared.Settings.{Settings}
@@ -35,9 +36,9 @@ three-kinds p x y z l = go (eqb l 80) (eqb l 78)
     go false true = y
     go false false = z
 
-no-bad-face : (n0 n1 : Float) (l : ℕ) → faceBad (faceOfLetter l) n0 n1 ≡ false
+no-bad-face : (a : Axis) (d : Side) (l : ℕ) → faceBad a d (faceOfLetter l) ≡ false
 unfolding faceBad
-no-bad-face n0 n1 = three-kinds (λ f. faceBad f n0 n1) refl refl refl
+no-bad-face a d = three-kinds (faceBad a d) refl refl refl
 
 module _ (a b c d nx ny : ℕ) where
   faces-good : facesBad (study a b c d nx ny) ≡ false
