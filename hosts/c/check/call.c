@@ -14,48 +14,51 @@ static double lent[BUFFERS][GUARD + MOST + GUARD];
 static double numbers[GUARD + ANSWERS + GUARD];
 static uint64_t words[GUARD + ANSWERS + GUARD];
 
+/* A buffer that a function writes, and one that it only reads. */
 static double *buffer(int which) { return &lent[which][GUARD]; }
+static const double *only_read(int which) { return buffer(which); }
+
 static double *number_answer(void) { return &numbers[GUARD]; }
 static uint64_t *word_answer(void) { return &words[GUARD]; }
 
 /* ---- the operations */
 
 static uint32_t initialize(const Call *c) {
-    return brothwagon_initialize(&c->settings, buffer(TABLE), c->length[TABLE], buffer(F), c->length[F]);
+    return brothwagon_initialize(&c->settings, only_read(TABLE), c->length[TABLE], buffer(F), c->length[F]);
 }
 
 static uint32_t density(const Call *c) {
-    return brothwagon_density(&c->settings, buffer(F), c->length[F], c->x, c->y, number_answer());
+    return brothwagon_density(&c->settings, only_read(F), c->length[F], c->x, c->y, number_answer());
 }
 
 static uint32_t velocity(const Call *c) {
-    return brothwagon_velocity(&c->settings, buffer(F), c->length[F], c->x, c->y, number_answer());
+    return brothwagon_velocity(&c->settings, only_read(F), c->length[F], c->x, c->y, number_answer());
 }
 
 static uint32_t velocity_field(const Call *c) {
-    return brothwagon_velocity_field(&c->settings, buffer(F), c->length[F], buffer(U), c->length[U]);
+    return brothwagon_velocity_field(&c->settings, only_read(F), c->length[F], buffer(U), c->length[U]);
 }
 
 static uint32_t total_mass(const Call *c) {
-    return brothwagon_total_mass(&c->settings, buffer(F), c->length[F], number_answer());
+    return brothwagon_total_mass(&c->settings, only_read(F), c->length[F], number_answer());
 }
 
 static uint32_t kinetic_energy(const Call *c) {
-    return brothwagon_kinetic_energy(&c->settings, buffer(F), c->length[F], number_answer());
+    return brothwagon_kinetic_energy(&c->settings, only_read(F), c->length[F], number_answer());
 }
 
 static uint32_t plane(const Call *c) {
-    return brothwagon_plane(&c->settings, buffer(F), c->length[F], c->direction, word_answer());
+    return brothwagon_plane(&c->settings, only_read(F), c->length[F], c->direction, word_answer());
 }
 
 static uint32_t stream_with_faces(const Call *c) {
-    return brothwagon_stream_with_faces(&c->settings, buffer(POST), c->length[POST], buffer(F), c->length[F]);
+    return brothwagon_stream_with_faces(&c->settings, only_read(POST), c->length[POST], buffer(F), c->length[F]);
 }
 
 static uint32_t lossless(const Call *c) { return brothwagon_lossless(&c->settings, word_answer()); }
 
 static uint32_t reverse(const Call *c) {
-    return brothwagon_reverse(&c->settings, buffer(F), c->length[F], buffer(POST), c->length[POST]);
+    return brothwagon_reverse(&c->settings, only_read(F), c->length[F], buffer(POST), c->length[POST]);
 }
 
 static uint32_t step_once(const Call *c) {
