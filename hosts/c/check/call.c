@@ -129,11 +129,11 @@ static void fill(double *into, int which, size_t count) {
 
 Call begin(uint64_t nx, uint64_t ny, const char *format, ...) {
     const size_t a_cell[BUFFERS] = {9, 9, 2, 3};
-    va_list words_of;
+    va_list arguments;
     Call call;
-    va_start(words_of, format);
-    vsnprintf(name, sizeof name, format, words_of);
-    va_end(words_of);
+    va_start(arguments, format);
+    vsnprintf(name, sizeof name, format, arguments);
+    va_end(arguments);
     memset(&call, 0, sizeof call);
     call.settings.nx = nx;
     call.settings.ny = ny;
@@ -147,23 +147,23 @@ Call begin(uint64_t nx, uint64_t ny, const char *format, ...) {
     return call;
 }
 
-static void differs(const Operation *operation, const char *what, long place, uint64_t expected, uint64_t seen) {
-    fprintf(stderr, "check: %s, %s: %s", operation->name, name, what);
-    if (place >= 0) {
-        fprintf(stderr, " at %ld", place);
-    }
-    fprintf(stderr, ": expected 0x%016llx, seen 0x%016llx\n", (unsigned long long)expected, (unsigned long long)seen);
+static void differs(const Operation *operation, const char *what, uint64_t expected, uint64_t seen) {
+    fprintf(stderr, "check: %s, %s: %s: expected 0x%016llx, seen 0x%016llx\n", operation->name, name, what,
+            (unsigned long long)expected, (unsigned long long)seen);
     exit(EXIT_FAILURE);
 }
 
-/* The words from `seen` on have the same bits as those from `expected` on; place 0 is behind the guard. */
-static void same(const Operation *operation, const char *what, const void *seen, const void *expected, size_t count) {
+/* So many words have the same bits; before the first entry of what is named stand so many. */
+static void same(const Operation *operation, const char *what, const void *seen, const void *expected, size_t count,
+                 size_t before) {
     for (size_t k = 0; k < count; k++) {
         uint64_t is, should_be;
         memcpy(&is, (const char *)seen + 8 * k, sizeof is);
         memcpy(&should_be, (const char *)expected + 8 * k, sizeof should_be);
         if (is != should_be) {
-            differs(operation, what, (long)k - GUARD, should_be, is);
+            char place[100];
+            snprintf(place, sizeof place, "%s at %ld", what, (long)k - (long)before);
+            differs(operation, place, should_be, is);
         }
     }
     numbers_checked += count;
@@ -174,7 +174,7 @@ static void same_answer(const Operation *operation, const void *seen, int which,
     double expected[GUARD + ANSWERS + GUARD];
     fill(expected, which, GUARD + ANSWERS + GUARD);
     memcpy(&expected[GUARD], wanted_answer, 8 * count);
-    same(operation, "the answer", seen, expected, GUARD + ANSWERS + GUARD);
+    same(operation, "the answer", seen, expected, GUARD + ANSWERS + GUARD, GUARD);
 }
 
 static void lend(void) {
@@ -192,14 +192,14 @@ void check(const Operation *operation, const Call *call, uint32_t number) {
     lend();
     const uint32_t seen = operation->make(call);
     if (seen != number) {
-        differs(operation, "the number", -1, number, seen);
+        differs(operation, "the number", number, seen);
     }
-    same(operation, "the settings", &call->settings, &before.settings, sizeof before.settings / 8);
+    same(operation, "the settings", &call->settings, &before.settings, sizeof before.settings / 8, 0);
     for (int which = 0; which < BUFFERS; which++) {
         double expected[GUARD + MOST + GUARD];
         fill(expected, BUFFERS + which, GUARD + MOST + GUARD);
         memcpy(&expected[GUARD], wanted[which], sizeof wanted[which]);
-        same(operation, names[which], lent[which], expected, GUARD + MOST + GUARD);
+        same(operation, names[which], lent[which], expected, GUARD + MOST + GUARD, GUARD);
     }
     same_answer(operation, numbers, 2 * BUFFERS, operation->numbers);
     same_answer(operation, words, 2 * BUFFERS, operation->words);
