@@ -1,13 +1,12 @@
--- `lossless_line::read_line` meets its contract: it counts the bytes that it puts, and stops at the end of the array.
--- Assumes nothing.
+-- `lossless_line::read` meets its contract: it counts the bytes that it puts, and stops at the end of the array.
 use mathlib.Core.Path.{_≡_}
 use Prim.Native.Nat.{_≤_, _-_}
 use native.Mathlib.Omega.{arith}
 use lib.ListN.{length, length-set}
 use borrow.Author.Needs.{needs}
 use Rattle.io.proofs.Counting.{counts}
-use Rattle.lossless_line.proofs.read_line.Statement.{statement}
-use Rattle.lossless_line.proofs.read_line.Tie as tie
+use Rattle.lossless_line.proofs.read.Statement.{statement}
+use Rattle.lossless_line.proofs.read.Tie as tie
 
 abbrev Inv-loop : tie.InvT-loop
 Inv-loop bytes₀ one₀ n₀ bytes one n = (n ≤ length bytes) × (length bytes ≡ length bytes₀) × (length one ≡ 1)
@@ -19,7 +18,7 @@ returns : tie.Need-returns Inv-loop μ-loop
 returns c = counts _ _ (omega arith)
 
 returns-2 : tie.Need-returns-2 Inv-loop μ-loop
-returns-2 c = counts _ _ (omega arith)
+returns-2 c = counts _ _ (simp length-set (omega arith))
 
 loop-again : tie.Need-loop-again Inv-loop μ-loop
 loop-again c = (simp length-set (omega arith), simp length-set (omega arith), omega arith)
@@ -27,8 +26,8 @@ loop-again c = (simp length-set (omega arith), simp length-set (omega arith), om
 returns-3 : tie.Need-returns-3 Inv-loop μ-loop
 returns-3 c = counts _ _ (omega arith)
 
-pub read-line-spec : {M : Type 1} → statement M
-read-line-spec =
+pub read-spec : {M : Type 1} → statement M
+read-spec =
     tie.close
     (tie.spec
     Inv-loop
@@ -40,10 +39,10 @@ read-line-spec =
     returns
     (λ c. search needs)
     (λ c. search needs)
+    (λ c. search needs)
+    (λ c. search needs)
+    (λ c. search needs)
     returns-2
-    (λ c. search needs)
-    (λ c. search needs)
-    (λ c. search needs)
     (λ c. search needs)
     loop-again
     (λ c. search needs)
