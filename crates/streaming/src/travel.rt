@@ -55,15 +55,15 @@ fn plane(t: Shift, base: usize, src: &[u64], dst: &mut [u64]) -> u64
     ensures wrote { λ _. ⌜ PlaneCopied t base (now (src .entry)) (now (dst .entry)) (now (dst .exit)) ⌝ }
     ensures joined { λ r. ⌜ r ≡ joinedTo (turnedPlane t base (now (src .entry))) (t .nx * t .ny) ⌝ }
 {
-    let mut all = 0;
+    let mut joined = 0;
     let mut y = 0;
     while y < t.ny {
         let from = wrap(t.ny, y + t.sy);
         let bits = row(src, base + from * t.nx, dst, base + y * t.nx, t.nx, t.sx);
-        all = all | bits;
+        joined = joined | bits;
         y += 1;
     }
-    all
+    joined
 }
 
 // One step of direction i back along an axis, as places on around the side of n.

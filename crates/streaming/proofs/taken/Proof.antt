@@ -11,7 +11,7 @@ use Rattle.streaming.proofs.taken.Statement.{statement}
 use Rattle.streaming.proofs.taken.Tie as tie
 
 bounce-back-requires : tie.Need-bounce-back-requires
-bounce-back-requires c κs = let s = c .before .before .before .before in (s .pre .0 .0, s .pre .1 .0, λ _. at-rest)
+bounce-back-requires c κs = (search needs, search needs, λ _. at-rest)
 
 bounce-back-requires-2 : tie.Need-bounce-back-requires-2
 bounce-back-requires-2 c κs =
