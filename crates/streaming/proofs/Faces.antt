@@ -5,9 +5,8 @@ use mathlib.Core.List.{List}
 use Prim.Native.Nat.{ℕ, _+_, _-_, _*_, _<_}
 use native.Mathlib.Omega.{arith}
 use lib.ListN.{getD}
-use lib.Ieee.{ofBits, eq, ne}
 use borrow.Author.Tests.{eqb-true, eqb-false}
-use Rattle.number.specs.Number.{valueOf, c0}
+use Rattle.number.specs.Number.{valueOf}
 use Rattle.number.proofs.Nine.{nine-of}
 use Rattle.lattice.specs.declared.Axis.{Axis}
 use Rattle.lattice.specs.declared.Axis.the-variants.{X, Y}
@@ -27,7 +26,7 @@ use Rattle.streaming.specs.declared.edge.Edge.{Edge}
 use Rattle.streaming.specs.declared.entries.Entries.{Entries}
 use Rattle.streaming.specs.Turned.{facing, seen}
 use Rattle.streaming.specs.Rows.{Became}
-use Rattle.streaming.specs.Faces.{sizeOf, coordOf, onFace, fed, cellAt, moving, pushed, walled, names, zouHeAt, takes, face}
+use Rattle.streaming.specs.Faces.{sizeOf, coordOf, onFace, fed, cellAt, pushed, walled, names, zouHeAt, takes, face}
 use Rattle.streaming.specs.Lines.{lineOf, spot, planesOf, entriesOf, alone, Sound, Built, takenAt, Along}
 use Rattle.streaming.proofs.Lines.{spots-differ}
 use Rattle.streaming.proofs.Directions.{comes-in, sound, One, is-n, is-np, is-nm, one-of, none-of, other-facing}
@@ -120,16 +119,6 @@ passed-by a s (Pressure r) nx ny p q x y i h = absurd (false≢true h)
 pub still : (back : Bool) (a : Axis) (s : Side) (k : Face) (nx ny : ℕ) (p : Field) (f : List ℕ) → isPeriodic k ≡ true → Became back nx ny f f (face a s k nx ny p (seen back nx ny f))
 still back a s k nx ny p f h =
     record { size = refl; field = record { here = λ x y i hx hy hi. sym (passed-by a s k nx ny p (seen back nx ny f) x y i h) } }
-
--- ---- a wall whose speeds both equal 0
-
-pub at-rest : moving c0 c0 ≡ false
-unfolding ne eq ofBits
-at-rest = refl
-
-pub rests : (post : Field) (d : Names) → entriesOf (walled c0 c0 post 0 0) d ≡ entriesOf (λ i. post 0 0 (OPP i)) d
-unfolding walled
-rests post d = rw at-rest
 
 -- ---- a cell that the line has not come to
 

@@ -51,7 +51,7 @@ fn taken(e: Edge, kind: Face, c: usize, post: &[u64], f: &[u64]) -> Entries
 {
     match kind {
         Face::Periodic => entries::entries_at(f, e.cells, c, e.into),
-        Face::NoSlip => walls::bounce_back(e, 0.0, 0.0, c, post),
+        Face::NoSlip => entries::entries_at(post, e.cells, c, e.opposite),
         Face::MovingWall(u, v) => walls::bounce_back(e, u, v, c, post),
         Face::Symmetry => entries::entries_at(post, e.cells, c, e.mirrored),
         Face::Velocity(u, v) => {

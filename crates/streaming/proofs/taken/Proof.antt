@@ -1,20 +1,15 @@
 -- `streaming::taken` meets its contract: kind by kind, the entries are what the rule says.
-use mathlib.Core.Path.{ap, _∙_}
+use mathlib.Core.Path.{ap}
 use borrow.Author.Needs.{needs}
 use Rattle.grid.specs.Grid.{cellOf}
 use Rattle.settings.specs.Tests.{drives}
 use Rattle.streaming.specs.Faces.{zouHeAt, takes}
-use Rattle.streaming.specs.Lines.{alone}
 use Rattle.streaming.proofs.Turned.{contradiction, not-back}
-use Rattle.streaming.proofs.Faces.{at-rest, rests}
 use Rattle.streaming.proofs.taken.Statement.{statement}
 use Rattle.streaming.proofs.taken.Tie as tie
 
 bounce-back-requires : tie.Need-bounce-back-requires
-bounce-back-requires c κs = (search needs, search needs, λ _. at-rest)
-
-bounce-back-requires-2 : tie.Need-bounce-back-requires-2
-bounce-back-requires-2 c κs =
+bounce-back-requires c κs =
     let known = c .before in
     let s = known .before .before .before .before in
     (s .pre .0 .0, s .pre .1 .0, λ h. contradiction (ap drives (known .kind .given .1)) (s .pre .0 .1 h))
@@ -29,18 +24,17 @@ returns-2 : tie.Need-returns-2
 unfolding takes
 returns-2 c =
     let told = c .before in
-    let a = told .before .before .before .before .args in
-    rw (told .enum-told2 .given .1) (c .bounce-back .ensures ∙ rests (alone (a .e .back) (a .post .now) (a .e .cells) (a .c)) (a .e .names))
+    rw (told .enum-told2 .given .1) (rw (told .before .before .before .before .pre .0 .0 .opposite-of) at (c .entries-at2 .ensures))
 
 returns-3 : tie.Need-returns-3
 unfolding takes
-returns-3 c = rw (c .before .before .kind .given .1) (c .bounce-back2 .ensures)
+returns-3 c = rw (c .before .before .kind .given .1) (c .bounce-back .ensures)
 
 returns-4 : tie.Need-returns-4
 unfolding takes
 returns-4 c =
     let told = c .before in
-    rw (told .enum-told3 .given .1) (rw (told .before .before .before .before .pre .0 .0 .mirrored-of) at (c .entries-at2 .ensures))
+    rw (told .enum-told3 .given .1) (rw (told .before .before .before .before .pre .0 .0 .mirrored-of) at (c .entries-at3 .ensures))
 
 returns-5 : tie.Need-returns-5
 unfolding takes zouHeAt cellOf
@@ -70,9 +64,9 @@ taken-spec =
     (λ c. search needs)
     (λ c κs. search needs)
     (λ c. search needs)
-    bounce-back-requires
+    (λ c κs. search needs)
     (λ c. search needs)
-    bounce-back-requires-2
+    bounce-back-requires
     (λ c. search needs)
     (λ c κs. search needs)
     (λ c. search needs)
