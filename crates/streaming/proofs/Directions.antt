@@ -11,20 +11,19 @@ use Rattle.lattice.specs.declared.Axis.{Axis}
 use Rattle.lattice.specs.declared.Axis.the-variants.{X, Y}
 use Rattle.lattice.specs.declared.Side.{Side}
 use Rattle.lattice.specs.declared.Side.the-variants.{Min, Max}
-use Rattle.lattice.specs.Lattice.{directions, OPP}
-use Rattle.lattice.specs.Lookup.{isRow, lookup, mirror}
-use Rattle.lattice.proofs.Tables.{opposite-small, mirror-small}
+use Rattle.lattice.specs.Lattice.{directions}
+use Rattle.lattice.specs.Lookup.{isRow, lookup}
 use Rattle.lattice.specs.Sides.{incoming}
-use Rattle.grid.specs.Grid.{Grid}
+use Rattle.settings.specs.declared.Face.{Face}
 use Rattle.streaming.specs.declared.edge.Names.{Names}
 use Rattle.streaming.specs.declared.edge.Line.{Line}
 use Rattle.streaming.specs.declared.edge.Planes.{Planes}
 use Rattle.streaming.specs.declared.edge.Edge.{Edge}
 use Rattle.streaming.specs.Turned.{facing}
 use Rattle.streaming.specs.Faces.{names}
-use Rattle.streaming.specs.Lines.{planesOf, Small, Apart, Sound, Other, lineOf, each, edgeOf, Built}
+use Rattle.streaming.specs.Lines.{Inside, planesOf, Small, Apart, Sound, Other, lineOf, each, edgeOf, Built}
+use Rattle.streaming.specs.Source.{reflect}
 use Rattle.streaming.proofs.Turned.{facing-small, facing-twice}
-use Rattle.streaming.proofs.Lines.{line-inside}
 
 -- ---- the names of a face
 
@@ -106,38 +105,24 @@ module _ (back : Bool) where
         nm = λ e. o .nm (facing-inj i (d .nm) hi (s .nm) e);
       }
 
--- ---- a face as its cells need it
+-- ---- a face as its cells need it, from its parts as the code makes them
 
-built : (a : Axis) (s : Side) (back : Bool) (nx ny : ℕ) → Grid nx ny → Built (edgeOf a s back nx ny)
-built a s back nx ny g =
-    let d = names a s in
-    let three = sound a s .three in
-    let small = three .small in
-    let facing-of : (h : ℕ → ℕ) → ((i : ℕ) → i < 9 → h i < 9) → Small (planesOf (λ i. facing back (h i)) d) =
-    λ h l.
-    record {
-      n = facing-small back (h (d .n)) (l (d .n) (small .n));
-      np = facing-small back (h (d .np)) (l (d .np) (small .np));
-      nm = facing-small back (h (d .nm)) (l (d .nm) (small .nm));
-    } in
-    record {
-      names-of = refl;
-      into-of = refl;
-      opposite-of = refl;
-      mirrored-of = refl;
-      inside = line-inside a s nx ny g;
-      sound = sound a s;
-      into-apart = three-facing back d three;
-      opposite-small = facing-of OPP opposite-small;
-      mirrored-small = facing-of (mirror a) (mirror-small a);
-    }
-
--- from its parts, as the code makes them
-pub edge-is : (a : Axis) (s : Side) (back : Bool) (nx ny : ℕ) → Grid nx ny → {d : Names} {l : Line} {p q r o m : Planes} → d ≡ names a s → l ≡ lineOf a s nx ny
-    → p ≡ each (facing back) (planesOf (λ i. i) d)
-    → o ≡ planesOf OPP d
-    → q ≡ each (facing back) o
-    → m ≡ planesOf (mirror a) d
-    → r ≡ each (facing back) m
-    → let e : Edge = record { axis = a; side = s; back = back; cells = nx * ny; line = l; names = d; into = p; opposite = q; mirrored = r } in (e ≡ edgeOf a s back nx ny) × Built e
-edge-is a s back nx ny g ed el ep eo eq em er = rw (ep, eq, eo, er, em, ed, el) (refl, built a s back nx ny g)
+pub edge-is : (a : Axis) (s : Side) (kind : Face) (back : Bool) (nx ny : ℕ) {d : Names} {l : Line} {p q r : Planes} → d ≡ names a s
+    → (l ≡ lineOf a s nx ny) × Inside l (nx * ny)
+    → (p ≡ planesOf (facing back) (names a s)) × Apart p
+    → q ≡ planesOf (reflect a kind) d
+    → (r ≡ each (facing back) q) × Small r
+    → let e : Edge = record { axis = a; side = s; kind = kind; back = back; cells = nx * ny; line = l; names = d; into = p; from = r } in (e ≡ edgeOf a s kind back nx ny) × Built e
+edge-is a s kind back nx ny ed (el, inside) (ep, apart) eq (er, small) =
+    let from = er ∙ ap (each (facing back)) eq ∙ ap (λ (d : Names). planesOf (λ i. facing back (reflect a kind i)) d) ed in (
+      rw (ed, el, ep, from),
+      record {
+        inside = inside;
+        sound = rw ed (sound a s);
+        names-of = ed;
+        into-of = rw ed ep;
+        into-apart = apart;
+        from-of = rw ed from;
+        from-small = small;
+      },
+    )

@@ -128,15 +128,15 @@ entries-same g h d s e =
     λ x. record { n = e (d .n) (l .n) x; np = e (d .np) (l .np) x; nm = e (d .nm) (l .nm) x }
 
 -- it takes what it would have taken before
-pub not-yet : {d g : List ℕ} {v : ℕ → Entries} (e : Edge) (kind : Face) (post : List ℕ) (k : ℕ) → Built e → k < e .line .count → Along d g (e .cells) (e .line) (e .into) k v
-    → takenAt e kind post g (spot (e .line) k) ≡ takenAt e kind post d (spot (e .line) k)
-not-yet {d} {g} e kind post k b h w =
+pub not-yet : {d g : List ℕ} {v : ℕ → Entries} (e : Edge) (post : List ℕ) (k : ℕ) → Built e → k < e .line .count → Along d g (e .cells) (e .line) (e .into) k v
+    → takenAt e post g (spot (e .line) k) ≡ takenAt e post d (spot (e .line) k)
+not-yet {d} {g} e post k b h w =
     let n = e .cells in
     let c = spot (e .line) k in
     let p = alone (e .back) post n c in
     entries-same _ _ (e .names) (b .sound)
     (λ i l.
-    takes-local (e .axis) (e .side) kind p (alone (e .back) g n c) p (alone (e .back) d n c) 0 0 0 0 i l (λ j _. refl)
+    takes-local (e .axis) (e .side) (e .kind) p (alone (e .back) g n c) p (alone (e .back) d n c) 0 0 0 0 i l (λ j _. refl)
     (λ j _. w .cells c (facing (e .back) j) (b .inside .cell k h) (λ m l q. spots-differ (b .inside) m k l (sym q))))
 
 -- ---- what was written along the line

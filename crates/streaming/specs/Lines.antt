@@ -12,8 +12,6 @@ use Rattle.lattice.specs.declared.Axis.{Axis}
 use Rattle.lattice.specs.declared.Axis.the-variants.{X, Y}
 use Rattle.lattice.specs.declared.Side.{Side}
 use Rattle.lattice.specs.declared.Side.the-variants.{Min, Max}
-use Rattle.lattice.specs.Lattice.{OPP}
-use Rattle.lattice.specs.Lookup.{mirror}
 use Rattle.grid.specs.Grid.{Field, bufferOf, mostCells}
 use Rattle.grid.specs.Finite.{joinedBuffer}
 use Rattle.settings.specs.declared.Face.{Face}
@@ -23,6 +21,7 @@ use Rattle.streaming.specs.Turned.{facing, turned, seen, carried}
 use Rattle.streaming.specs.Rows.{Became}
 use Rattle.streaming.specs.Faces.{names, byVelocity, byPressure, takes, face}
 use Rattle.streaming.specs.Streaming.{bounded}
+use Rattle.streaming.specs.Source.{reflect}
 use Rattle.streaming.specs.Travel.{streamed}
 use Rattle.streaming.specs.declared.edge.Names.{Names}
 use Rattle.streaming.specs.declared.edge.Line.{Line}
@@ -94,38 +93,36 @@ pub record Sound (d : Names) : Type 0 where
   pub three : Apart (planesOf (λ i. i) d)
 
 -- a face as its cells need it
-abbrev pub edgeOf : Axis → Side → Bool → ℕ → ℕ → Edge
-edgeOf axis side back nx ny =
-    let d = names axis side in
+abbrev pub edgeOf : Axis → Side → Face → Bool → ℕ → ℕ → Edge
+edgeOf a s kind back nx ny =
     record {
-      axis = axis;
-      side = side;
+      axis = a;
+      side = s;
+      kind = kind;
       back = back;
       cells = nx * ny;
-      line = lineOf axis side nx ny;
-      names = d;
-      into = planesOf (facing back) d;
-      opposite = planesOf (λ i. facing back (OPP i)) d;
-      mirrored = planesOf (λ i. facing back (mirror axis i)) d;
+      line = lineOf a s nx ny;
+      names = names a s;
+      into = planesOf (facing back) (names a s);
+      from = planesOf (λ i. facing back (reflect a kind i)) (names a s);
     }
 
 -- its parts belong together
 pub record Built (e : Edge) : Type 0 where
-  pub names-of : e .names ≡ names (e .axis) (e .side)
-  pub into-of : e .into ≡ planesOf (facing (e .back)) (e .names)
-  pub opposite-of : e .opposite ≡ planesOf (λ i. facing (e .back) (OPP i)) (e .names)
-  pub mirrored-of : e .mirrored ≡ planesOf (λ i. facing (e .back) (mirror (e .axis) i)) (e .names)
   pub inside : Inside (e .line) (e .cells)
   pub sound : Sound (e .names)
+  pub names-of : e .names ≡ names (e .axis) (e .side)
+  pub into-of : e .into ≡ planesOf (facing (e .back)) (e .names)
   pub into-apart : Apart (e .into)
-  pub opposite-small : Small (e .opposite)
-  pub mirrored-small : Small (e .mirrored)
+  pub from-of : e .from ≡ planesOf (λ i. facing (e .back) (reflect (e .axis) (e .kind) i)) (e .names)
+  pub from-small : Small (e .from)
 
 -- what its three directions take at cell c, from the two buffers
-abbrev pub takenAt : Edge → Face → List ℕ → List ℕ → ℕ → Entries
-takenAt e k post f c =
-    let n = e .cells in
-    entriesOf (takes (e .axis) (e .side) k (alone (e .back) post n c) (alone (e .back) f n c) 0 0) (e .names)
+abbrev pub takenAt : Edge → List ℕ → List ℕ → ℕ → Entries
+takenAt e post f c =
+    let before : Field = alone (e .back) post (e .cells) c in
+    let now : Field = alone (e .back) f (e .cells) c in
+    entriesOf (takes (e .axis) (e .side) (e .kind) before now 0 0) (e .names)
 
 -- plane i is none of the three
 pub record Other (i : ℕ) (p : Planes) : Type 0 where
@@ -181,9 +178,9 @@ lineJoin b n l i = joinedTo (planeAlong b n l i) (l .count)
 -- the three planes that come in through a face, along its cells; a periodic face lets nothing in that streaming had not copied
 unfoldable pub faceJoin : Bool → Settings → Axis → Side → List ℕ → ℕ
 faceJoin back s a d b =
-    let e = edgeOf a d back (s .nx) (s .ny) in
-    let along = lineJoin b (e .cells) (e .line) in
-    cond (isPeriodic (faceOf s a d)) 0 (bitOr (bitOr (along (e .into .n)) (along (e .into .np))) (along (e .into .nm)))
+    let into = planesOf (facing back) (names a d) in
+    let along = lineJoin b (s .nx * s .ny) (lineOf a d (s .nx) (s .ny)) in
+    cond (isPeriodic (faceOf s a d)) 0 (bitOr (bitOr (along (into .n)) (along (into .np))) (along (into .nm)))
 
 unfoldable pub facesJoin : Bool → Settings → List ℕ → ℕ
 facesJoin back s b =

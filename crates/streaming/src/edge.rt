@@ -2,6 +2,7 @@
 use crate::travel;
 use lattice::Axis;
 use lattice::Side;
+use settings::Face;
 ghost use mathlib.Core.Path.{_≡_};
 ghost use Prim.Native.Nat.{_*_, _<_};
 ghost use Rattle.lattice.specs.Lattice.{OPP};
@@ -9,7 +10,8 @@ ghost use Rattle.lattice.specs.Lookup.{mirror};
 ghost use Rattle.grid.specs.Grid.{Grid};
 ghost use Rattle.streaming.specs.Turned as Turned;
 ghost use Rattle.streaming.specs.Faces as Faces;
-ghost use Rattle.streaming.specs.Lines.{lineOf, planesOf, each, Small, Sound, edgeOf, Built};
+ghost use Rattle.streaming.specs.Lines.{lineOf, Inside, planesOf, each, Small, Apart, Sound, edgeOf, Built};
+ghost use Rattle.streaming.specs.Source.{reflect};
 
 // The directions n, t, -t, n + t and n - t of a face: n, n + t and n - t come in.
 pub struct Names {
@@ -23,17 +25,39 @@ pub struct Names {
 fn names_of(axis: Axis, side: Side) -> Names
     ensures { λ r. ⌜ (r ≡ Faces.names axis side) × Sound r ⌝ }
 {
-    let g = lattice::frame_of(axis, side);
-    let n0 = g.n0;
-    let n1 = g.n1;
-    let t0 = g.t0;
-    let t1 = g.t1;
-    Names {
-        n: lattice::dir_index(n0, n1).direction,
-        t: lattice::dir_index(t0, t1).direction,
-        tm: lattice::dir_index(-t0, -t1).direction,
-        np: lattice::dir_index(n0 + t0, n1 + t1).direction,
-        nm: lattice::dir_index(n0 - t0, n1 - t1).direction,
+    match axis {
+        Axis::X => match side {
+            Side::Min => Names {
+                n: 1,
+                t: 2,
+                tm: 4,
+                np: 5,
+                nm: 8,
+            },
+            Side::Max => Names {
+                n: 3,
+                t: 2,
+                tm: 4,
+                np: 6,
+                nm: 7,
+            },
+        },
+        Axis::Y => match side {
+            Side::Min => Names {
+                n: 2,
+                t: 1,
+                tm: 3,
+                np: 5,
+                nm: 6,
+            },
+            Side::Max => Names {
+                n: 4,
+                t: 1,
+                tm: 3,
+                np: 8,
+                nm: 7,
+            },
+        },
     }
 }
 
@@ -44,9 +68,9 @@ pub struct Line {
     pub count: usize,
 }
 
-fn line_of(axis: Axis, side: Side, nx: usize, ny: usize) -> Line
+pub fn line_of(axis: Axis, side: Side, nx: usize, ny: usize) -> Line
     requires { ⌜ Grid nx ny ⌝ }
-    ensures { λ r. ⌜ r ≡ lineOf axis side nx ny ⌝ }
+    ensures { λ r. ⌜ (r ≡ lineOf axis side nx ny) × Inside r (nx * ny) ⌝ }
 {
     match axis {
         Axis::X => Line {
@@ -111,23 +135,9 @@ fn faced(back: bool, p: Planes) -> Planes
     }
 }
 
-// A face as the work at its cells needs it: which it is, which way the travel goes, the cells of the grid and its own,
-// its directions; the planes that come in, those of their opposites, and those of their mirrors.
-pub struct Edge {
-    pub axis: Axis,
-    pub side: Side,
-    pub back: bool,
-    pub cells: usize,
-    pub line: Line,
-    pub names: Names,
-    pub into: Planes,
-    pub opposite: Planes,
-    pub mirrored: Planes,
-}
-
-pub fn edge_of(axis: Axis, side: Side, back: bool, nx: usize, ny: usize) -> Edge
-    requires { ⌜ Grid nx ny ⌝ }
-    ensures { λ r. ⌜ (r ≡ edgeOf axis side back nx ny) × Built r ⌝ }
+// The planes that come in through a face.
+pub fn incoming(axis: Axis, side: Side, back: bool) -> Planes
+    ensures { λ r. ⌜ (r ≡ planesOf (Turned.facing back) (Faces.names axis side)) × Apart r ⌝ }
 {
     let d = names_of(axis, side);
     let three = Planes {
@@ -135,15 +145,49 @@ pub fn edge_of(axis: Axis, side: Side, back: bool, nx: usize, ny: usize) -> Edge
         np: d.np,
         nm: d.nm,
     };
+    faced(back, three)
+}
+
+// The planes that a kind reflects into them: of the mirrored directions where it is Symmetry, and else of the opposite ones.
+fn reflected(kind: Face, axis: Axis, d: Names) -> Planes
+    requires { ⌜ Sound d ⌝ }
+    ensures { λ r. ⌜ (r ≡ planesOf (reflect axis kind) d) × Small r ⌝ }
+{
+    if settings::is_symmetry(kind) {
+        mirrors(axis, d)
+    } else {
+        opposites(d)
+    }
+}
+
+// A face as the work at its cells needs it: which it is, its kind, which way the travel goes, the cells of the grid and its
+// own, its directions; the planes that come in, and those that they are reflected from.
+pub struct Edge {
+    pub axis: Axis,
+    pub side: Side,
+    pub kind: Face,
+    pub back: bool,
+    pub cells: usize,
+    pub line: Line,
+    pub names: Names,
+    pub into: Planes,
+    pub from: Planes,
+}
+
+pub fn edge_of(axis: Axis, side: Side, kind: Face, back: bool, nx: usize, ny: usize) -> Edge
+    requires { ⌜ Grid nx ny ⌝ }
+    ensures { λ r. ⌜ (r ≡ edgeOf axis side kind back nx ny) × Built r ⌝ }
+{
+    let d = names_of(axis, side);
     Edge {
         axis,
         side,
+        kind,
         back,
         cells: nx * ny,
         line: line_of(axis, side, nx, ny),
         names: d,
-        into: faced(back, three),
-        opposite: faced(back, opposites(d)),
-        mirrored: faced(back, mirrors(axis, d)),
+        into: incoming(axis, side, back),
+        from: faced(back, reflected(kind, axis, d)),
     }
 }

@@ -44,16 +44,17 @@ fn face_of(s: Settings, axis: Axis, side: Side) -> Face
 
 // What the three directions that come in at cell c take, kind by kind, from the post-collision buffer and from f before
 // the face. Only a face that drives nothing has a way back.
-fn taken(e: Edge, kind: Face, c: usize, post: &[u64], f: &[u64]) -> Entries
-    requires { ⌜ Built e × (e .back ≡ true → drives kind ≡ false) ⌝ }
+fn taken(e: Edge, c: usize, post: &[u64], f: &[u64]) -> Entries
+    requires { ⌜ Built e × (e .back ≡ true → drives (e .kind) ≡ false) ⌝ }
     requires { ⌜ Holds (now post) (e .cells) c × Holds (now f) (e .cells) c ⌝ }
-    ensures { λ r. ⌜ r ≡ takenAt e kind (now (post .entry)) (now (f .entry)) c ⌝ }
+    ensures { λ r. ⌜ r ≡ takenAt e (now (post .entry)) (now (f .entry)) c ⌝ }
 {
+    let kind = e.kind;
     match kind {
         Face::Periodic => entries::entries_at(f, e.cells, c, e.into),
-        Face::NoSlip => entries::entries_at(post, e.cells, c, e.opposite),
+        Face::NoSlip => entries::entries_at(post, e.cells, c, e.from),
         Face::MovingWall(u, v) => walls::bounce_back(e, u, v, c, post),
-        Face::Symmetry => entries::entries_at(post, e.cells, c, e.mirrored),
+        Face::Symmetry => entries::entries_at(post, e.cells, c, e.from),
         Face::Velocity(u, v) => {
             let axis = e.axis;
             let side = e.side;
@@ -80,12 +81,12 @@ fn face(s: Settings, axis: Axis, side: Side, back: bool, post: &[u64], f: &mut [
     if settings::is_periodic(kind) {
         return;
     }
-    let e = edge::edge_of(axis, side, back, s.nx, s.ny);
+    let e = edge::edge_of(axis, side, kind, back, s.nx, s.ny);
     let line = e.line;
     let mut k = 0;
     while k < line.count {
         let c = line.start + k * line.stride;
-        entries::put(f, e.cells, c, e.into, taken(e, kind, c, post, f));
+        entries::put(f, e.cells, c, e.into, taken(e, c, post, f));
         k += 1;
     }
 }
@@ -114,10 +115,12 @@ fn face_joined(s: Settings, axis: Axis, side: Side, back: bool, f: &[u64]) -> u6
     if settings::is_periodic(face_of(s, axis, side)) {
         return 0;
     }
-    let e = edge::edge_of(axis, side, back, s.nx, s.ny);
-    let n = entries::line_joined(f, e.cells, e.line, e.into.n);
-    let np = entries::line_joined(f, e.cells, e.line, e.into.np);
-    let nm = entries::line_joined(f, e.cells, e.line, e.into.nm);
+    let cells = s.nx * s.ny;
+    let line = edge::line_of(axis, side, s.nx, s.ny);
+    let into = edge::incoming(axis, side, back);
+    let n = entries::line_joined(f, cells, line, into.n);
+    let np = entries::line_joined(f, cells, line, into.np);
+    let nm = entries::line_joined(f, cells, line, into.nm);
     n | np | nm
 }
 

@@ -12,11 +12,11 @@ use Rattle.streaming.proofs.face.Statement.{statement}
 use Rattle.streaming.proofs.face.Tie as tie
 
 abbrev Inv-loop : tie.InvT-loop
-Inv-loop back post f₀ kind e line k₀ f k =
-    (k ≤ line .count) × Along f₀ f (e .cells) line (e .into) k (λ j. takenAt e kind post f₀ (spot line j))
+Inv-loop back post f₀ e line k₀ f k =
+    (k ≤ line .count) × Along f₀ f (e .cells) line (e .into) k (λ j. takenAt e post f₀ (spot line j))
 
 abbrev μ-loop : tie.MeasureT-loop
-μ-loop back post f₀ kind e line k₀ f k = line .count - k
+μ-loop back post f₀ e line k₀ f k = line .count - k
 
 -- the edge has the grid's cells
 cells : (g : tie.After-edge-of Inv-loop μ-loop) → let s = g .before .before .before .before .before .before .args .s in g .edge-of .result .cells ≡ s .nx * s .ny
@@ -53,7 +53,7 @@ taken-requires c κs =
     let s = kind .before .before .before in
     let e = g .edge-of .ensures .1 in
     let size = sym (ap (λ n. 9 * n) (cells g)) in (
-      (e, λ h. rw (kind .face-of .ensures) (undriven (s .args .s) (s .pre .1 (sym (ap (λ (e : Edge). e .back) (g .edge-of .ensures .0)) ∙ h)) (s .args .axis) (s .args .side))),
+      (e, λ h. rw (ap (λ (e : Edge). e .kind) (g .edge-of .ensures .0) ∙ kind .face-of .ensures) (undriven (s .args .s) (s .pre .1 (sym (ap (λ (e : Edge). e .back) (g .edge-of .ensures .0)) ∙ h)) (s .args .axis) (s .args .side))),
       (
         holds-spot _ (head .loop .k) (e .inside) (test .if2 .taken) (s .pre .0 .read ∙ size),
         holds-spot _ (head .loop .k) (e .inside) (test .if2 .taken) (head .loop .inv .1 .size ∙ s .pre .0 .written ∙ size),
@@ -79,7 +79,7 @@ loop-again c =
     let e = g .edge-of .ensures .1 in
     let kind = g .before .before .before in
     along-more _ _ _ _ _ _ (head .loop .k) _ _ (e .inside) (test .if2 .taken) (head .loop .inv .1) (put .put .ensures)
-    (taken .taken .ensures ∙ not-yet (g .edge-of .result) (kind .face-of .result) (kind .before .before .before .args .post .now) (head .loop .k) e (test .if2 .taken) (head .loop .inv .1))
+    (taken .taken .ensures ∙ not-yet (g .edge-of .result) (kind .before .before .before .args .post .now) (head .loop .k) e (test .if2 .taken) (head .loop .inv .1))
 
 same-length : tie.Need-same-length Inv-loop μ-loop
 same-length c = c .before .before .loop .inv .1 .size

@@ -2,7 +2,7 @@
 use mathlib.Core.Path.{ap}
 use borrow.Author.Needs.{needs}
 use Rattle.grid.specs.Grid.{cellOf}
-use Rattle.settings.specs.Tests.{drives}
+use Rattle.settings.specs.Tests.{isSymmetry, drives}
 use Rattle.streaming.specs.Faces.{zouHeAt, takes}
 use Rattle.streaming.proofs.Turned.{contradiction, not-back}
 use Rattle.streaming.proofs.taken.Statement.{statement}
@@ -12,7 +12,7 @@ bounce-back-requires : tie.Need-bounce-back-requires
 bounce-back-requires c κs =
     let known = c .before in
     let s = known .before .before .before .before in
-    (s .pre .0 .0, s .pre .1 .0, λ h. contradiction (ap drives (known .kind .given .1)) (s .pre .0 .1 h))
+    ((s .pre .0 .0, ap isSymmetry (known .kind .given .1), s .pre .1 .0), λ h. contradiction (ap drives (known .kind .given .1)) (s .pre .0 .1 h))
 
 returns : tie.Need-returns
 unfolding takes
@@ -24,7 +24,7 @@ returns-2 : tie.Need-returns-2
 unfolding takes
 returns-2 c =
     let told = c .before in
-    rw (told .enum-told2 .given .1) (rw (told .before .before .before .before .pre .0 .0 .opposite-of) at (c .entries-at2 .ensures))
+    rw (told .enum-told2 .given .1) (rw (told .before .before .before .before .pre .0 .0 .from-of, told .enum-told2 .given .1) at (c .entries-at2 .ensures))
 
 returns-3 : tie.Need-returns-3
 unfolding takes
@@ -34,7 +34,7 @@ returns-4 : tie.Need-returns-4
 unfolding takes
 returns-4 c =
     let told = c .before in
-    rw (told .enum-told3 .given .1) (rw (told .before .before .before .before .pre .0 .0 .mirrored-of) at (c .entries-at3 .ensures))
+    rw (told .enum-told3 .given .1) (rw (told .before .before .before .before .pre .0 .0 .from-of, told .enum-told3 .given .1) at (c .entries-at3 .ensures))
 
 returns-5 : tie.Need-returns-5
 unfolding takes zouHeAt cellOf
@@ -44,7 +44,7 @@ returns-5 c =
     let n = t .before in
     let known = n .before .before in
     let s = known .before .before .before .before in
-    let back = not-back (s .args .e .back) (drives (s .args .kind)) (s .pre .0 .1) (ap drives (known .kind2 .given .1)) in
+    let back = not-back (s .args .e .back) (drives (s .args .e .kind)) (s .pre .0 .1) (ap drives (known .kind2 .given .1)) in
     rw (back, known .kind2 .given .1, s .pre .0 .0 .names-of)
     (rw (g .gather .ensures, t .along-tangent .ensures, n .along-normal .ensures, s .pre .0 .0 .names-of) at (c .zou-he .ensures))
 
@@ -54,7 +54,7 @@ returns-6 c =
     let g = c .before in
     let known = g .before .before in
     let s = known .before .before .before .before in
-    let back = not-back (s .args .e .back) (drives (s .args .kind)) (s .pre .0 .1) (ap drives (known .kind3 .given .1)) in
+    let back = not-back (s .args .e .back) (drives (s .args .e .kind)) (s .pre .0 .1) (ap drives (known .kind3 .given .1)) in
     rw (back, known .kind3 .given .1, s .pre .0 .0 .names-of) (rw (g .gather2 .ensures, s .pre .0 .0 .names-of) at (c .zou-he2 .ensures))
 
 pub taken-spec : {M : Type 1} → statement M

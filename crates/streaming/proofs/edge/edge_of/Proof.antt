@@ -7,19 +7,14 @@ use Rattle.streaming.proofs.edge.edge_of.Tie as tie
 returns : tie.Need-returns
 returns c =
     let m = c .before in
-    let f2 = m .before in
-    let o = f2 .before in
-    let f1 = o .before in
-    let l = f1 .before in
+    let i = m .before in
+    let l = i .before in
     let d = l .before in
-    let s = d .before in
-    let a = s .args in
-    edge-is (a .axis) (a .side) (a .back) (a .nx) (a .ny) (s .pre) (d .names-of .ensures .0) (l .line-of .ensures)
-    (f1 .faced .ensures .0)
-    (o .opposites .ensures .0)
-    (f2 .faced2 .ensures .0)
-    (m .mirrors .ensures .0)
-    (c .faced3 .ensures .0)
+    let a = d .before .args in
+    edge-is (a .axis) (a .side) (a .kind) (a .back) (a .nx) (a .ny) (d .names-of .ensures .0) (l .line-of .ensures)
+    (i .incoming .ensures)
+    (m .reflected .ensures .0)
+    (c .faced .ensures)
 
 pub edge-of-spec : {M : Type 1} → statement M
 edge-of-spec =
@@ -27,8 +22,6 @@ edge-of-spec =
     (tie.spec
     (λ c κs. search needs)
     (λ c. search needs)
-    (λ c κs. search needs)
-    (λ c κs. search needs)
     (λ c κs. search needs)
     (λ c κs. search needs)
     (λ c κs. search needs)

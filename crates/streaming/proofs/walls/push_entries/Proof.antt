@@ -14,7 +14,7 @@ returns c =
     let d = e .before in
     let g = d .before in
     let s = g .before .before in
-    rw (p1 .push .ensures, p2 .push2 .ensures, c .push3 .ensures, e .entries-at .ensures, s .pre .0 .opposite-of, s .pre .2, d .density .ensures, g .gather .ensures)
+    rw (p1 .push .ensures, p2 .push2 .ensures, c .push3 .ensures, e .entries-at .ensures, s .pre .0 .0 .from-of, s .pre .0 .1, s .pre .1, d .density .ensures, g .gather .ensures)
 
 pub push-entries-spec : {M : Type 1} → statement M
 push-entries-spec =
