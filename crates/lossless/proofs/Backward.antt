@@ -5,14 +5,14 @@ use mathlib.Core.Bool.{true, false}
 use mathlib.Core.List.{List}
 use Prim.Native.Nat.{ℕ, _*_}
 use lib.ListN.{length, getD}
-use Rattle.grid.specs.Grid.{Field, fieldOf, bufferOf, Same}
+use Rattle.grid.specs.Grid.{Field, fieldOf, Same}
 use Rattle.grid.proofs.Fields.{field-of-buffer, is-buffer, same-buffer}
 use Rattle.settings.specs.declared.Settings.{Settings}
 use Rattle.settings.specs.Tests.{driven, lossy}
 use Rattle.streaming.specs.Streaming.{next, nextBuffer}
 use Rattle.streaming.specs.Turned.{turned, carried}
 use Rattle.streaming.specs.Source.{Entry, entry, On, indexOf, held, opposite, source, target}
-use Rattle.streaming.proofs.Source.{copied, opposite-on, opposite-opposite, source-on, target-on, turned-around}
+use Rattle.streaming.proofs.Source.{copied, source-on, target-on, turned-around}
 use Rattle.lossless.specs.Lossless.{reversed, reverseBuffer}
 use Rattle.lossless.proofs.Criterion.{there, again}
 

@@ -7,7 +7,7 @@ use mathlib.Core.Logic.{_↔_}
 use Prim.Native.Nat.{ℕ, _*_}
 use native.Mathlib.Decide.{ℕ-discrete}
 use lib.ListN.{length}
-use Rattle.grid.specs.Grid.{Grid, fieldOf, Same}
+use Rattle.grid.specs.Grid.{Grid}
 use Rattle.settings.specs.declared.Settings.{Settings}
 use Rattle.settings.specs.Tests.{driven, lossy}
 use Rattle.settings.specs.Refusals.{refusal, lossless, reverse}

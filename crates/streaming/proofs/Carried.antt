@@ -14,7 +14,7 @@ use Rattle.settings.specs.declared.Settings.{Settings}
 use Rattle.streaming.specs.Travel.{streamed}
 use Rattle.streaming.specs.Rows.{Lent, Became, Streamed}
 use Rattle.streaming.specs.Faces.{face}
-use Rattle.streaming.specs.Lines.{facesJoin, streamedBuffer, carriedJoin}
+use Rattle.streaming.specs.Carried.{facesJoin, streamedBuffer, carriedJoin}
 use Rattle.streaming.specs.Streaming.{bounded, next, nextBuffer}
 use Rattle.streaming.specs.Turned.{facing, turned, seen, carried}
 use Rattle.streaming.proofs.Turned.{facing-small, facing-twice}

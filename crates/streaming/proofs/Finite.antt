@@ -25,9 +25,10 @@ use Rattle.settings.specs.declared.Settings.{Settings}
 use Rattle.settings.specs.Tests.{faceOf, isPeriodic}
 use Rattle.streaming.specs.Travel.{streamed}
 use Rattle.streaming.specs.Turned.{facing, turned, seen, carried}
-use Rattle.streaming.specs.Faces.{sizeOf, coordOf, onFace, fed, names, face}
+use Rattle.streaming.specs.Faces.{sizeOf, coordOf, onFace, names, face}
 use Rattle.streaming.specs.Streaming.{next}
-use Rattle.streaming.specs.Lines.{lineOf, lineJoin, planeAlong, faceJoin, facesJoin, streamedBuffer, carriedJoin}
+use Rattle.streaming.specs.Lines.{lineOf}
+use Rattle.streaming.specs.Carried.{lineJoin, planeAlong, faceJoin, facesJoin, streamedBuffer, carriedJoin}
 use Rattle.streaming.proofs.Turned.{facing-small, facing-twice}
 use Rattle.streaming.proofs.Directions.{comes-in, One, is-n, is-np, is-nm, one-of}
 use Rattle.streaming.proofs.Faces.{across, on-line, passed-by}

@@ -5,3 +5,4 @@ pub mod Turned
 pub mod Source
 pub mod Rows
 pub mod Lines
+pub mod Carried

@@ -1,28 +1,24 @@
 -- What `face` and the functions below it cite: where a face's cells stand, the three entries that come in at each, and what writing
 -- them leaves.
 use mathlib.Core.Path.{_≡_}
-use mathlib.Core.Bool.{Bool, cond}
+use mathlib.Core.Bool.{Bool}
 use mathlib.Core.List.{List}
 use Prim.Native.Nat.{ℕ, _+_, _-_, _*_, _≤_, _<_}
 use lib.ListN.{length, getD}
 use lib.Ieee.{Float}
-use lib.Bits.{bitOr}
-use Rattle.number.specs.Joined.{joinedTo}
 use Rattle.lattice.specs.declared.Axis.{Axis}
 use Rattle.lattice.specs.declared.Axis.the-variants.{X, Y}
 use Rattle.lattice.specs.declared.Side.{Side}
 use Rattle.lattice.specs.declared.Side.the-variants.{Min, Max}
-use Rattle.grid.specs.Grid.{Field, bufferOf, mostCells}
-use Rattle.grid.specs.Finite.{joinedBuffer}
+use Rattle.grid.specs.Grid.{Field, mostCells}
 use Rattle.settings.specs.declared.Face.{Face}
 use Rattle.settings.specs.declared.Settings.{Settings}
-use Rattle.settings.specs.Tests.{faceOf, isPeriodic}
-use Rattle.streaming.specs.Turned.{facing, turned, seen, carried}
+use Rattle.settings.specs.Tests.{faceOf}
+use Rattle.streaming.specs.Turned.{facing, seen}
 use Rattle.streaming.specs.Rows.{Became}
 use Rattle.streaming.specs.Faces.{names, byVelocity, byPressure, takes, face}
 use Rattle.streaming.specs.Streaming.{bounded}
 use Rattle.streaming.specs.Source.{reflect}
-use Rattle.streaming.specs.Travel.{streamed}
 use Rattle.streaming.specs.declared.edge.Names.{Names}
 use Rattle.streaming.specs.declared.edge.Line.{Line}
 use Rattle.streaming.specs.declared.edge.Planes.{Planes}
@@ -165,35 +161,3 @@ Bounded s back post f e =
     let nx = s .nx in
     let ny = s .ny in
     Became back nx ny f e (bounded s (seen back nx ny post) (seen back nx ny f))
-
--- ---- what came in, raised and joined
-
--- plane i along a line
-abbrev pub planeAlong : List ℕ → ℕ → Line → ℕ → ℕ → ℕ
-planeAlong b n l i k = getD b (spot l k + i * n) 0
-
-abbrev pub lineJoin : List ℕ → ℕ → Line → ℕ → ℕ
-lineJoin b n l i = joinedTo (planeAlong b n l i) (l .count)
-
--- the three planes that come in through a face, along its cells; a periodic face lets nothing in that streaming had not copied
-unfoldable pub faceJoin : Bool → Settings → Axis → Side → List ℕ → ℕ
-faceJoin back s a d b =
-    let into = planesOf (facing back) (names a d) in
-    let along = lineJoin b (s .nx * s .ny) (lineOf a d (s .nx) (s .ny)) in
-    cond (isPeriodic (faceOf s a d)) 0 (bitOr (bitOr (along (into .n)) (along (into .np))) (along (into .nm)))
-
-unfoldable pub facesJoin : Bool → Settings → List ℕ → ℕ
-facesJoin back s b =
-    let x = bitOr (faceJoin back s X Min b) (faceJoin back s X Max b) in
-    bitOr (bitOr x (faceJoin back s Y Min b)) (faceJoin back s Y Max b)
-
--- the buffer that streaming leaves, before the faces
-unfoldable pub streamedBuffer : Bool → Settings → List ℕ → List ℕ
-streamedBuffer back s post =
-    let nx = s .nx in
-    let ny = s .ny in
-    bufferOf nx ny (turned back (streamed nx ny (seen back nx ny post)))
-
--- what `carry` answers: all that was streamed, and what the four faces let in
-unfoldable pub carriedJoin : Bool → Settings → List ℕ → ℕ
-carriedJoin back s post = bitOr (joinedBuffer (streamedBuffer back s post)) (facesJoin back s (carried back s post))

@@ -4,7 +4,7 @@ use lattice::Axis;
 use lattice::Side;
 use settings::Face;
 ghost use mathlib.Core.Path.{_≡_};
-ghost use Prim.Native.Nat.{_*_, _<_};
+ghost use Prim.Native.Nat.{_*_};
 ghost use Rattle.lattice.specs.Lattice.{OPP};
 ghost use Rattle.lattice.specs.Lookup.{mirror};
 ghost use Rattle.grid.specs.Grid.{Grid};

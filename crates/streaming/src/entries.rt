@@ -5,7 +5,8 @@ ghost use mathlib.Core.Path.{_≡_};
 ghost use Prim.Native.Nat.{_+_, _*_, _<_};
 ghost use lib.ListN.{length, getD, set};
 ghost use Rattle.grid.specs.Grid.{Holds};
-ghost use Rattle.streaming.specs.Lines.{Inside, entriesAt, Small, Apart, Changed, lineJoin};
+ghost use Rattle.streaming.specs.Lines.{Inside, entriesAt, Small, Apart, Changed};
+ghost use Rattle.streaming.specs.Carried.{lineJoin};
 
 pub struct Entries {
     pub n: u64,

@@ -22,7 +22,8 @@ ghost use Rattle.settings.specs.Outcome.{outcome};
 ghost use Rattle.settings.specs.Tests.{faceOf, drives, driven};
 ghost use Rattle.streaming.specs.Turned.{carried};
 ghost use Rattle.streaming.specs.Rows.{Lent};
-ghost use Rattle.streaming.specs.Lines.{Built, takenAt, Faced, Bounded, faceJoin, facesJoin, carriedJoin};
+ghost use Rattle.streaming.specs.Lines.{Built, takenAt, Faced, Bounded};
+ghost use Rattle.streaming.specs.Carried.{faceJoin, facesJoin, carriedJoin};
 ghost use Rattle.streaming.specs.Streaming.{streamedWithFaces};
 
 // ---- one face

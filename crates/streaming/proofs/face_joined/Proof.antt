@@ -1,7 +1,7 @@
 -- `streaming::face_joined` meets its contract: the three lines, or nothing.
 use mathlib.Core.Path.{sym, _∙_}
 use borrow.Author.Needs.{needs}
-use Rattle.streaming.specs.Lines.{faceJoin}
+use Rattle.streaming.specs.Carried.{faceJoin}
 use Rattle.streaming.proofs.face_joined.Statement.{statement}
 use Rattle.streaming.proofs.face_joined.Tie as tie
 

@@ -1,6 +1,6 @@
 -- `streaming::faces_joined` meets its contract: the four faces.
 use borrow.Author.Needs.{needs}
-use Rattle.streaming.specs.Lines.{facesJoin}
+use Rattle.streaming.specs.Carried.{facesJoin}
 use Rattle.streaming.proofs.faces_joined.Statement.{statement}
 use Rattle.streaming.proofs.faces_joined.Tie as tie
 

@@ -1,29 +1,16 @@
 -- `entries::entry` meets its contract: the place is within the buffer, so nothing wraps.
-use Prim.Native.Nat.{_+_, _*_, _<_}
 use native.Mathlib.Omega.{arith}
 use borrow.Author.Needs.{needs}
-use Rattle.grid.proofs.Radix.{cell-in}
-use Rattle.streaming.proofs.entries.entry.Tie as tie
+use Rattle.grid.proofs.Fields.{held}
 use Rattle.streaming.proofs.entries.entry.Statement.{statement}
-
-place : (s : tie.Start) → s .args .c + s .args .i * s .args .n < 9 * s .args .n
-place s = cell-in _ _ _ (s .pre .0 .cell) (s .pre .1)
-
-mul-result : tie.Need-mul-result
-mul-result c = omega (arith, place c)
-
-add-result : tie.Need-add-result
-add-result c = omega (arith, place c)
-
-mul-result-2 : tie.Need-mul-result-2
-mul-result-2 c = omega (arith, place c)
-
-shared-slice-read-result : tie.Need-shared-slice-read-result
-shared-slice-read-result c = omega (arith, place (c .before))
-
-returns : tie.Need-returns
-returns c = search needs
+use Rattle.streaming.proofs.entries.entry.Tie as tie
 
 pub entry-spec : {M : Type 1} → statement M
 entry-spec =
-    tie.close (tie.spec mul-result add-result mul-result-2 shared-slice-read-result returns)
+    tie.close
+    (tie.spec
+    (λ c. omega (arith, held (c .pre .0) (c .pre .1)))
+    (λ c. omega (arith, held (c .pre .0) (c .pre .1)))
+    (λ c. omega (arith, held (c .pre .0) (c .pre .1)))
+    (λ c. omega (arith, held (c .before .pre .0) (c .before .pre .1)))
+    (λ c. search needs))

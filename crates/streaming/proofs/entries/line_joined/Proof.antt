@@ -4,7 +4,7 @@ use Prim.Native.Nat.{_-_, _≤_}
 use native.Mathlib.Omega.{arith}
 use borrow.Author.Needs.{needs}
 use Rattle.number.proofs.Joined.{joined-none, joined-more, joined-to-length}
-use Rattle.streaming.specs.Lines.{planeAlong}
+use Rattle.streaming.specs.Carried.{planeAlong}
 use Rattle.number.specs.Joined.{joinedTo}
 use Rattle.streaming.proofs.Lines.{holds-spot}
 use Rattle.streaming.proofs.entries.line_joined.Statement.{statement}

@@ -4,18 +4,6 @@ use Rattle.streaming.proofs.Lines.{put-three}
 use Rattle.streaming.proofs.entries.put.Tie as tie
 use Rattle.streaming.proofs.entries.put.Statement.{statement}
 
-set-entry-requires : tie.Need-set-entry-requires
-set-entry-requires c κs = search needs
-
-set-entry-requires-2 : tie.Need-set-entry-requires-2
-set-entry-requires-2 c κs = search needs
-
-set-entry-requires-3 : tie.Need-set-entry-requires-3
-set-entry-requires-3 c κs = search needs
-
-same-length : tie.Need-same-length
-same-length c = search needs
-
 returns : tie.Need-returns
 returns c =
     let s3 = c .before .before in
@@ -28,4 +16,4 @@ returns c =
 pub put-spec : {M : Type 1} → statement M
 put-spec =
     tie.close
-    (tie.spec set-entry-requires set-entry-requires-2 set-entry-requires-3 same-length returns)
+    (tie.spec (λ c κs. search needs) (λ c κs. search needs) (λ c κs. search needs) (λ c. search needs) returns)

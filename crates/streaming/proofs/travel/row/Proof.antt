@@ -1,5 +1,4 @@
 -- `travel::row` meets its contract: the two copies meet.
-use native.Mathlib.Omega.{arith}
 use borrow.Author.Needs.{needs}
 use Rattle.streaming.proofs.Rows.{two-parts}
 use Rattle.streaming.proofs.travel.row.Statement.{statement}

@@ -40,60 +40,6 @@ three-entries d kind f s ei ej ek ew =
     let nm-np = ne-eqb (d .nm) (d .np) (λ e. s .three .np-nm (sym e)) in
     rw (ew, ei, ej, ek, same (d .n), np-n, same (d .np), nm-n, nm-np)
 
-mul-f-t : tie.Need-mul-f-t
-mul-f-t c = search needs
-
-array-read-f-t : tie.Need-array-read-f-t
-array-read-f-t c = search needs
-
-mul-f-tm : tie.Need-mul-f-tm
-mul-f-tm c = search needs
-
-array-read-f-tm : tie.Need-array-read-f-tm
-array-read-f-tm c = search needs
-
-opposite-requires : tie.Need-opposite-requires
-opposite-requires c κs = search needs
-
-mul-f-on : tie.Need-mul-f-on
-mul-f-on c = search needs
-
-array-read-f-on : tie.Need-array-read-f-on
-array-read-f-on c = search needs
-
-opposite-requires-2 : tie.Need-opposite-requires-2
-opposite-requires-2 c κs = search needs
-
-mul-f-onp : tie.Need-mul-f-onp
-mul-f-onp c = search needs
-
-array-read-f-onp : tie.Need-array-read-f-onp
-array-read-f-onp c = search needs
-
-opposite-requires-3 : tie.Need-opposite-requires-3
-opposite-requires-3 c κs = search needs
-
-mul-f-onm : tie.Need-mul-f-onm
-mul-f-onm c = search needs
-
-array-read-f-onm : tie.Need-array-read-f-onm
-array-read-f-onm c = search needs
-
-array-read-sum-parallel : tie.Need-array-read-sum-parallel
-array-read-sum-parallel c = search needs
-
-prescribe-requires : tie.Need-prescribe-requires
-prescribe-requires c κs = search needs
-
-pattern-requires : tie.Need-pattern-requires
-pattern-requires c κs = search needs
-
-pattern-requires-2 : tie.Need-pattern-requires-2
-pattern-requires-2 c κs = search needs
-
-pattern-requires-3 : tie.Need-pattern-requires-3
-pattern-requires-3 c κs = search needs
-
 returns : tie.Need-returns
 returns c =
     let p2 = c .before in
@@ -114,22 +60,22 @@ pub zou-he-spec : {M : Type 1} → statement M
 zou-he-spec =
     tie.close
     (tie.spec
-    mul-f-t
-    array-read-f-t
-    mul-f-tm
-    array-read-f-tm
-    opposite-requires
-    mul-f-on
-    array-read-f-on
-    opposite-requires-2
-    mul-f-onp
-    array-read-f-onp
-    opposite-requires-3
-    mul-f-onm
-    array-read-f-onm
-    array-read-sum-parallel
-    prescribe-requires
-    pattern-requires
-    pattern-requires-2
-    pattern-requires-3
+    (λ c. search needs)
+    (λ c. search needs)
+    (λ c. search needs)
+    (λ c. search needs)
+    (λ c κs. search needs)
+    (λ c. search needs)
+    (λ c. search needs)
+    (λ c κs. search needs)
+    (λ c. search needs)
+    (λ c. search needs)
+    (λ c κs. search needs)
+    (λ c. search needs)
+    (λ c. search needs)
+    (λ c. search needs)
+    (λ c κs. search needs)
+    (λ c κs. search needs)
+    (λ c κs. search needs)
+    (λ c κs. search needs)
     returns)
