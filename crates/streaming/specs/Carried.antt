@@ -26,7 +26,8 @@ planeAlong b n l i k = getD b (spot l k + i * n) 0
 abbrev pub lineJoin : List ℕ → ℕ → Line → ℕ → ℕ
 lineJoin b n l i = joinedTo (planeAlong b n l i) (l .count)
 
--- the three planes that come in through a face, along its cells; a periodic face lets nothing in that streaming had not copied
+-- the three planes that come in through a face, along its cells; a periodic face lets nothing in that streaming had not
+-- copied
 unfoldable pub faceJoin : Bool → Settings → Axis → Side → List ℕ → ℕ
 faceJoin back s a d b =
     let into = planesOf (facing back) (names a d) in

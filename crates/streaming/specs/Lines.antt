@@ -1,5 +1,5 @@
--- What `face` and the functions below it cite: where a face's cells stand, the three entries that come in at each, and what writing
--- them leaves.
+-- What `face` and the functions below it cite: where a face's cells stand, the three entries that come in at each, and what
+-- writing them leaves.
 use mathlib.Core.Path.{_≡_}
 use mathlib.Core.Bool.{Bool}
 use mathlib.Core.List.{List}
@@ -116,9 +116,9 @@ pub record Built (e : Edge) : Type 0 where
 -- what its three directions take at cell c, from the two buffers
 abbrev pub takenAt : Edge → List ℕ → List ℕ → ℕ → Entries
 takenAt e post f c =
-    let before : Field = alone (e .back) post (e .cells) c in
-    let now : Field = alone (e .back) f (e .cells) c in
-    entriesOf (takes (e .axis) (e .side) (e .kind) before now 0 0) (e .names)
+    let collided = alone (e .back) post (e .cells) c in
+    let standing = alone (e .back) f (e .cells) c in
+    entriesOf (takes (e .axis) (e .side) (e .kind) collided standing 0 0) (e .names)
 
 -- plane i is none of the three
 pub record Other (i : ℕ) (p : Planes) : Type 0 where
@@ -148,7 +148,7 @@ abbrev pub prescribed : ZouHe → Float → Prescribed
 prescribed (Velocity un ut) sum = byVelocity un ut sum
 prescribed (Pressure rho) sum = byPressure rho sum
 
--- ---- what a face leaves, and what all four leave: of the settings s, with post lent, the buffer d has become e
+-- ---- what a face leaves, and what all four leave: under the settings s, with post lent, the buffer f has become e
 
 abbrev pub Faced : Settings → Axis → Side → Bool → List ℕ → List ℕ → List ℕ → Type 0
 Faced s a d back post f e =

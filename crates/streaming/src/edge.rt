@@ -13,7 +13,8 @@ ghost use Rattle.streaming.specs.Faces as Faces;
 ghost use Rattle.streaming.specs.Lines.{lineOf, Inside, planesOf, each, Small, Apart, Sound, edgeOf, Built};
 ghost use Rattle.streaming.specs.Source.{reflect};
 
-// The directions n, t, -t, n + t and n - t of a face: n, n + t and n - t come in.
+// The directions n, t, -t, n + t and n - t of a face, with n its inward normal and t its tangent. Three come in: n, n + t
+// and n - t.
 pub struct Names {
     pub n: usize,
     pub t: usize,
@@ -22,6 +23,7 @@ pub struct Names {
     pub nm: usize,
 }
 
+// Each by its number, which the lookup of its vector finds.
 fn names_of(axis: Axis, side: Side) -> Names
     ensures { λ r. ⌜ (r ≡ Faces.names axis side) × Sound r ⌝ }
 {
