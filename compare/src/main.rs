@@ -5,8 +5,6 @@ mod case;
 mod comparison;
 mod differences;
 mod expected;
-#[path = "../../hosts/rust/src/bin/brothwagon/level.rs"]
-mod level;
 mod levels;
 mod made;
 mod random;
@@ -16,7 +14,7 @@ mod studies;
 
 use case::{BUFFERS, Case, OPERATIONS};
 use comparison::{Comparison, Difference};
-use level::level;
+use source::levels::{as_asked, level};
 use std::env;
 use std::io::{IsTerminal, Write, stderr};
 use std::process::ExitCode;
@@ -64,7 +62,7 @@ fn main() -> ExitCode {
         let others: Vec<&str> = words.into_iter().filter(|&word| word != "--levels").collect();
         return levels::each(&others);
     }
-    if !levels::as_asked() {
+    if !as_asked() {
         return ExitCode::from(2);
     }
     match words[..] {
