@@ -19,9 +19,9 @@ module _ (collide : List Float → List Float → List Float → List Float) (f 
   unfolding cellBy sourcesOf
   cell-forced e es er = rw (e, ← em, ← ef, ← es) er
 
--- what the test found of the force
-pub found : {t x b : Bool} → t ≡ x → t ≡ b → x ≡ b
-found p q = sym p ∙ q
+-- what the test tested of the force
+pub tested : {t x b : Bool} → t ≡ x → t ≡ b → x ≡ b
+tested p q = sym p ∙ q
 
 -- TRT from its two halves
 pub both-halves : (rates : TrtRates) (f feq src : List Float) {kept r : List Float} → kept ≡ trtRelaxed rates f feq → r ≡ trtSourced rates kept src → r ≡ trt rates f feq src
