@@ -1,11 +1,18 @@
--- A cell's collision from its parts, once for the three kinds: what `search` is handed at each cell.
+-- A cell from its parts: its momentum once for the two components, and its collision once for the three kinds.
 use mathlib.Core.Path.{_≡_, sym, _∙_}
 use mathlib.Core.Bool.{Bool, true, false}
 use mathlib.Core.List.{List}
+use Prim.Native.Nat.{ℕ}
 use lib.Ieee.{Float}
+use Rattle.number.specs.Number.{_⊗_}
+use Rattle.number.specs.Nine.{at, nine, sumTo}
 use Rattle.cell.specs.declared.Moments.{Moments}
 use Rattle.cell.specs.declared.trt.TrtRates.{TrtRates}
-use Rattle.cell.specs.Cell.{collisionMoments, equilibriaOf, guoSources, forcedBy, noSource, sourcesOf, trtRelaxed, trtSourced, trt, cellBy}
+use Rattle.cell.specs.Cell.{sumOfProducts, collisionMoments, equilibriaOf, guoSources, forcedBy, noSource, sourcesOf, trtRelaxed, trtSourced, trt, cellBy}
+
+pub momentum-of : (e : ℕ → Float) (f : List Float) {l : List Float} {r : Float} → r ≡ sumOfProducts f l → l ≡ nine e → r ≡ sumTo (λ i. at f i ⊗ e i) 9
+unfolding sumOfProducts sumTo
+momentum-of e f p q = rw q at p
 
 module _ (collide : List Float → List Float → List Float → List Float) (f : List Float) (fx fy : Float) {m : Moments} {feq r : List Float}
     (em : m ≡ collisionMoments f fx fy) (ef : feq ≡ equilibriaOf m) where
@@ -19,7 +26,7 @@ module _ (collide : List Float → List Float → List Float → List Float) (f 
   unfolding cellBy sourcesOf
   cell-forced e es er = rw (e, ← em, ← ef, ← es) er
 
--- what the test tested of the force
+-- what a test found
 pub tested : {t x b : Bool} → t ≡ x → t ≡ b → x ≡ b
 tested p q = sym p ∙ q
 

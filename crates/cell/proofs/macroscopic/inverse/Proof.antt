@@ -1,4 +1,4 @@
--- `cell::macroscopic::inverse` meets its contract: each arm returns what `cond` picks where the test is as it was tested.
+-- `cell::macroscopic::inverse` meets its contract: each arm returns what `cond` picks where the test is as it was found.
 use borrow.Author.Needs.{needs}
 use Rattle.cell.specs.Cell.{inverseOf}
 use Rattle.cell.proofs.macroscopic.inverse.Statement.{statement}

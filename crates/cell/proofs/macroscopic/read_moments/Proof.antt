@@ -1,4 +1,4 @@
--- `cell::macroscopic::read_moments` meets its contract: each arm returns what `cond` picks where the test is as it was tested.
+-- `cell::macroscopic::read_moments` meets its contract: each arm returns what `cond` picks where the test is as it was found.
 use borrow.Author.Needs.{needs}
 use Rattle.cell.specs.Cell.{readMoments}
 use Rattle.cell.proofs.macroscopic.read_moments.Statement.{statement}
