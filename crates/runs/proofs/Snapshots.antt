@@ -1,5 +1,4 @@
 -- Snapshots: one cell more and all cells, for the loop that judges a snapshot and for the loop that takes one.
--- Assumes nothing.
 use mathlib.Core.Path.{_≡_, refl, sym, ap, _∙_}
 use mathlib.Core.Bool.{Bool, false, _||_}
 use mathlib.Core.List.{List}
@@ -15,8 +14,8 @@ use Rattle.cell.specs.declared.Moments.{Moments}
 use Rattle.settings.specs.declared.Settings.{Settings}
 use Rattle.readings.specs.Readings.{velocityAt, componentAt, velocityEntry, velocityBuffer}
 use Rattle.readings.proofs.Fills.{velocity-more, velocity-all}
-use Rattle.runs.specs.declared.Maxima.{Maxima}
-use Rattle.runs.specs.Passes.{CellTaken, cellTaken}
+use Rattle.runs.specs.declared.snapshot.Maxima.{Maxima}
+use Rattle.runs.specs.Passes.{CellTaken, taken, cellTaken}
 use Rattle.runs.specs.Steady.{someOf, largest, change, speed, ratio, residualOf}
 
 -- ---- judging: whether one of the first c is bad
@@ -62,7 +61,7 @@ module _ (s : Settings) (f last : List ℕ) where
 
   -- one cell more, whose old components are still the last snapshot's
   pub taken-more : (c : ℕ) {u u' : List ℕ} {max max' : Maxima} {m : Moments} → 2 * c + 1 < length last → m ≡ velocityAt s f c
-      → Taken s f last u max c → _≡_ {A = CellTaken} (record { maxima = max'; u = u' }) (cellTaken max m c u) → Taken s f last u' max' (c + 1)
+      → Taken s f last u max c → taken max' u' ≡ cellTaken max m c u → Taken s f last u' max' (c + 1)
   taken-more c {u} {u'} {m = m} fits p t e =
       let old-x : getD u (2 * c) 0 ≡ getD last (2 * c) 0 = t .wrote .above (2 * c) (omega arith) in
       let old-y : getD u (2 * c + 1) 0 ≡ getD last (2 * c + 1) 0 = t .wrote .above (2 * c + 1) (omega arith) in

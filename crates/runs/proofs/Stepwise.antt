@@ -1,12 +1,15 @@
 -- Steps: one, one more, and that the buffers keep their sizes.
--- Assumes nothing.
 use mathlib.Core.Path.{_≡_, refl, sym, ap, _∙_}
-use mathlib.Core.Bool.{false}
+use mathlib.Core.Bool.{Bool, false}
 use mathlib.Core.List.{List}
-use Prim.Native.Nat.{ℕ, _+_}
+use Prim.Native.Nat.{ℕ, _+_, _*_, _≤_, _<_}
+use native.Mathlib.Nat.{le-antisymm}
 use native.Mathlib.Numerals.{add-one}
-use lib.ListN.{length}
+use native.Mathlib.Omega.{arith}
+use borrow.Author.Needs.{needs}
 use borrow.Author.Tests.{ne-eqb}
+use lib.ListN.{length}
+use Rattle.grid.proofs.Fields.{buffer-length}
 use Rattle.settings.specs.declared.Settings.{Settings}
 use Rattle.settings.specs.Refusals as Call
 use Rattle.settings.specs.Refusals.{refusal}
@@ -15,49 +18,77 @@ use Rattle.settings.proofs.Laws.{known}
 use Rattle.streaming.specs.Streaming.{nextBuffer}
 use Rattle.streaming.specs.Turned.{carried}
 use Rattle.streaming.proofs.Carried.{carried-forward}
-use Rattle.runs.specs.Passes.{Ready}
-use Rattle.runs.specs.Steps.{collidedBuffer, State, oneStep, steps, Stepped, after}
+use Rattle.runs.specs.Passes.{Ready, Vouched}
+use Rattle.runs.specs.Steps.{collidedBuffer, State, state, oneStep, steps, left, after}
 
-abbrev pub state : List ℕ → List ℕ → State
-state f post = record { f = f; post = post }
+-- ---- one step
 
 -- what is left by colliding into post and carrying on into f
-pub stepped : (s : Settings) (f post : List ℕ) {f' post' : List ℕ} → post' ≡ collidedBuffer s f → f' ≡ carried false s post' → state f' post' ≡ oneStep s (state f post)
+pub one-step : (s : Settings) (f : List ℕ) {f' post' : List ℕ} → post' ≡ collidedBuffer s f → f' ≡ carried false s post' → state f' post' ≡ oneStep s f
 unfolding oneStep
-stepped s f post {f'} {post'} p q =
-    let r = q ∙ carried-forward s post' in
-    let n : f' ≡ nextBuffer s (collidedBuffer s f) = r ∙ ap (nextBuffer s) p in
-    λ i. state (n i) (p i)
+one-step s f {f'} {post'} p q =
+    let n : f' ≡ nextBuffer s (collidedBuffer s f) = q ∙ carried-forward s post' ∙ ap (nextBuffer s) p in λ i. state (n i) (p i)
+
+-- whatever the sizes before it
+pub step-ready : (s : Settings) (f : List ℕ) {f' post' f'' post'' : List ℕ} → state f'' post'' ≡ oneStep s f → Ready s f' post' → Ready s f'' post''
+unfolding oneStep collidedBuffer nextBuffer
+step-ready s f e r = record {
+  grid = r .grid;
+  f-size = ap (λ (b : State). length (b .f)) e ∙ buffer-length (s .nx) (s .ny) _;
+  post-size = ap (λ (b : State). length (b .post)) e ∙ buffer-length (s .nx) (s .ny) _;
+}
 
 pub no-step : (s : Settings) (b : State) → b ≡ steps s 0 b
 unfolding steps
 no-step s b = refl
 
--- one step more
-pub one-more-step : (s : Settings) (k : ℕ) (b : State) {c d : State} → c ≡ steps s k b → d ≡ oneStep s c → d ≡ steps s (k + 1) b
-unfolding steps
-one-more-step s k b p q = q ∙ ap (oneStep s) p ∙ ap (λ (n : ℕ). steps s n b) (sym (add-one k))
+-- ---- n steps from the state b, under way: the buffers are as after k steps, and `plain` is right of f
+
+pub record Going (s : Settings) (n : ℕ) (b : State) (f post : List ℕ) (plain : Bool) (k : ℕ) : Type 0 where
+  pub low : k ≤ n
+  pub ready : Ready s f post
+  pub reached : state f post ≡ steps s k b
+  pub told : Vouched plain f
+
+module _ {s : Settings} {n : ℕ} where
+  pub going-none : {f post : List ℕ} {plain : Bool} → Ready s f post → Vouched plain f → Going s n (state f post) f post plain 0
+  going-none r v = record { low = omega arith; ready = r; reached = no-step s _; told = v }
+
+  -- one step more
+  pub going-more : {b : State} {f post f' post' : List ℕ} {plain plain' : Bool} {k : ℕ} → k < n → Going s n b f post plain k
+      → state f' post' ≡ oneStep s f → Vouched plain' f' → Going s n b f' post' plain' (k + 1)
+  unfolding steps
+  going-more {b} {f} {k = k} h g e v = record {
+    low = omega arith;
+    ready = step-ready s f e (g .ready);
+    reached = rw (add-one k) (e ∙ ap (λ (b : State). oneStep s (b .f)) (g .reached));
+    told = v;
+  }
+
+  pub going-done : {b : State} {f post : List ℕ} {plain : Bool} {k : ℕ} → Going s n b f post plain k → n ≤ k → state f post ≡ steps s n b
+  going-done g h = rw (le-antisymm (g .low) h) at (g .reached)
+
+pub ruleset going = (going-none, going-more, going-done, needs)
 
 -- ---- the outcomes of `step` and `run`, where the code found the number n and the rules give m
 
-pub kept : (s : Settings) (k : ℕ) {n m : ℕ} {f post : List ℕ} → n ≡ m → (n ≡ 0 → ⊥) → _≡_ {A = Stepped} (record { number = n; f = f; post = post }) (after m s k f post)
+pub kept : (s : Settings) (k : ℕ) {n m : ℕ} {f post : List ℕ} → n ≡ m → (n ≡ 0 → ⊥) → left n f post ≡ after m s k f post
 unfolding answer
 kept s k {n} e h = rw (← e, ne-eqb n 0 h)
 
 pub ran : (s : Settings) (k : ℕ) (f post : List ℕ) {n m : ℕ} {f' post' : List ℕ} → n ≡ m → n ≡ 0 → state f' post' ≡ steps s k (state f post)
-    → _≡_ {A = Stepped} (record { number = 0; f = f'; post = post' }) (after m s k f post)
+    → left 0 f' post' ≡ after m s k f post
 unfolding answer
 ran s k f post {n} {m} e h q =
-    let z : m ≡ 0 = sym e ∙ h in
-    rw z (λ i. record { number = 0; f = q i .f; post = q i .post })
+    let z : m ≡ 0 = sym e ∙ h in rw z (λ i. left 0 (q i .f) (q i .post))
 
 -- what is known where they are not refused
-pub step-ready : (s : Settings) (f post : List ℕ) → refusal (Call.step s (length f) (length post)) ≡ 0 → Ready s f post
-step-ready s f post e =
+pub may-step : (s : Settings) (f post : List ℕ) → refusal (Call.step s (length f) (length post)) ≡ 0 → Ready s f post
+may-step s f post e =
     let q = known (Call.step s (length f) (length post)) e in
     record { grid = q .0; f-size = q .1 .0 .size; post-size = q .1 .1 .0 .size }
 
-pub run-ready : (s : Settings) (n : ℕ) (f post : List ℕ) → refusal (Call.run s n (length f) (length post)) ≡ 0 → Ready s f post
-run-ready s n f post e =
+pub may-run : (s : Settings) (n : ℕ) (f post : List ℕ) → refusal (Call.run s n (length f) (length post)) ≡ 0 → Ready s f post
+may-run s n f post e =
     let q = known (Call.run s n (length f) (length post)) e in
     record { grid = q .0; f-size = q .1 .0 .size; post-size = q .1 .1 .0 .size }
