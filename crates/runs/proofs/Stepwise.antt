@@ -1,5 +1,5 @@
 -- Steps: one, one more, and that the buffers keep their sizes.
-use mathlib.Core.Path.{_≡_, refl, sym, ap, _∙_, subst}
+use mathlib.Core.Path.{_≡_, refl, sym, ap, _∙_}
 use mathlib.Core.Bool.{Bool, false}
 use mathlib.Core.List.{List}
 use Prim.Native.Nat.{ℕ, _+_, _*_, _≤_, _<_}
@@ -9,10 +9,7 @@ use native.Mathlib.Omega.{arith}
 use borrow.Author.Needs.{needs}
 use borrow.Author.Tests.{ne-eqb}
 use lib.ListN.{length}
-use Rattle.number.specs.Joined.{clearOf}
-use Rattle.grid.specs.Finite.{AllFinite, joinedBuffer}
 use Rattle.grid.proofs.Fields.{buffer-length}
-use Rattle.grid.proofs.Finite.{all-finite}
 use Rattle.settings.specs.declared.Settings.{Settings}
 use Rattle.settings.specs.Refusals as Call
 use Rattle.settings.specs.Refusals.{refusal}
@@ -20,9 +17,7 @@ use Rattle.settings.specs.Outcome.{answer}
 use Rattle.settings.proofs.Laws.{known}
 use Rattle.streaming.specs.Streaming.{nextBuffer}
 use Rattle.streaming.specs.Turned.{carried}
-use Rattle.streaming.specs.Lines.{carriedJoin}
 use Rattle.streaming.proofs.Carried.{carried-forward}
-use Rattle.streaming.proofs.Finite.{carried-finite}
 use Rattle.runs.specs.Passes.{Ready, Vouched}
 use Rattle.runs.specs.Steps.{collidedBuffer, State, state, oneStep, steps, left, after}
 
@@ -33,14 +28,6 @@ pub one-step : (s : Settings) (f : List ℕ) {f' post' : List ℕ} → post' ≡
 unfolding oneStep
 one-step s f {f'} {post'} p q =
     let n : f' ≡ nextBuffer s (collidedBuffer s f) = q ∙ carried-forward s post' ∙ ap (nextBuffer s) p in λ i. state (n i) (p i)
-
--- ---- what the joined bits vouch for
-
-pub first-vouched : (f : List ℕ) {r : Bool} → r ≡ clearOf (joinedBuffer f) → Vouched r f
-first-vouched f e = record { so = λ h. all-finite f (sym e ∙ h) }
-
-pub next-vouched : (s : Settings) (post : List ℕ) {r : Bool} {f : List ℕ} → f ≡ carried false s post → r ≡ clearOf (carriedJoin false s post) → Vouched r f
-next-vouched s post p e = record { so = λ h. subst AllFinite (sym p) (carried-finite false s post (sym e ∙ h)) }
 
 -- whatever the sizes before it
 pub step-ready : (s : Settings) (f : List ℕ) {f' post' f'' post'' : List ℕ} → state f'' post'' ≡ oneStep s f → Ready s f' post' → Ready s f'' post''
@@ -55,21 +42,21 @@ pub no-step : (s : Settings) (b : State) → b ≡ steps s 0 b
 unfolding steps
 no-step s b = refl
 
--- ---- n steps from the state b, under way: the buffers are as after k steps, and `finite` is right of f
+-- ---- n steps from the state b, under way: the buffers are as after k steps, and `plain` is right of f
 
-pub record Going (s : Settings) (n : ℕ) (b : State) (f post : List ℕ) (finite : Bool) (k : ℕ) : Type 0 where
+pub record Going (s : Settings) (n : ℕ) (b : State) (f post : List ℕ) (plain : Bool) (k : ℕ) : Type 0 where
   pub low : k ≤ n
   pub ready : Ready s f post
   pub reached : state f post ≡ steps s k b
-  pub told : Vouched finite f
+  pub told : Vouched plain f
 
 module _ {s : Settings} {n : ℕ} where
-  pub going-none : {f post : List ℕ} {finite : Bool} → Ready s f post → Vouched finite f → Going s n (state f post) f post finite 0
+  pub going-none : {f post : List ℕ} {plain : Bool} → Ready s f post → Vouched plain f → Going s n (state f post) f post plain 0
   going-none r v = record { low = omega arith; ready = r; reached = no-step s _; told = v }
 
   -- one step more
-  pub going-more : {b : State} {f post f' post' : List ℕ} {finite finite' : Bool} {k : ℕ} → k < n → Going s n b f post finite k
-      → state f' post' ≡ oneStep s f → Vouched finite' f' → Going s n b f' post' finite' (k + 1)
+  pub going-more : {b : State} {f post f' post' : List ℕ} {plain plain' : Bool} {k : ℕ} → k < n → Going s n b f post plain k
+      → state f' post' ≡ oneStep s f → Vouched plain' f' → Going s n b f' post' plain' (k + 1)
   unfolding steps
   going-more {b} {f} {k = k} h g e v = record {
     low = omega arith;
@@ -78,7 +65,7 @@ module _ {s : Settings} {n : ℕ} where
     told = v;
   }
 
-  pub going-done : {b : State} {f post : List ℕ} {finite : Bool} {k : ℕ} → Going s n b f post finite k → n ≤ k → state f post ≡ steps s n b
+  pub going-done : {b : State} {f post : List ℕ} {plain : Bool} {k : ℕ} → Going s n b f post plain k → n ≤ k → state f post ≡ steps s n b
   going-done g h = rw (le-antisymm (g .low) h) at (g .reached)
 
 pub ruleset going = (going-none, going-more, going-done, needs)

@@ -9,7 +9,7 @@ use Rattle.number.specs.Number.{valueOf, patternOf, magnitudeOf, largerOf, _⊖
 use Rattle.number.specs.Nine.{at}
 use Rattle.grid.specs.Grid.{mostCells, Grid, cellOf}
 use Rattle.grid.specs.Writes.{Cells}
-use Rattle.grid.specs.Finite.{AllFinite}
+use Rattle.grid.specs.Plain.{AllPlain}
 use Rattle.cell.specs.declared.Moments.{Moments}
 use Rattle.cell.specs.Cell.{cellBy}
 use Rattle.settings.specs.declared.Settings.{Settings}
@@ -38,9 +38,9 @@ pub record Seen (s : Settings) (f u : List ℕ) : Type 0 where
   pub f-size : length f ≡ 9 * (s .nx * s .ny)
   pub u-size : length u ≡ 2 * (s .nx * s .ny)
 
--- `finite` is true only where every entry of f is finite
-pub record Vouched (finite : Bool) (f : List ℕ) : Type 0 where
-  pub so : finite ≡ true → AllFinite f
+-- `plain` is true only where every entry of f is plain
+pub record Vouched (plain : Bool) (f : List ℕ) : Type 0 where
+  pub so : plain ≡ true → AllPlain f
 
 -- entry i of cell c after one of the three collisions
 abbrev pub entryBy : (List Float → List Float → List Float → List Float) → Float → Float → List ℕ → ℕ → ℕ → ℕ → ℕ

@@ -2,7 +2,6 @@
 use crate::snapshot::bad_snapshot;
 use crate::snapshot::take_snapshot;
 use crate::steps::advance;
-use crate::steps::all_finite;
 use settings::Settings;
 ghost use mathlib.Core.Path.{_≡_};
 ghost use Rattle.runs.specs.Passes.{AllReady, Seen};
@@ -80,10 +79,10 @@ fn steady_steps(
 {
     let most = checks.max_steps;
     let mut residual = 1.0 / 0.0;
-    let mut finite = all_finite(f);
+    let mut plain = grid::all_plain(f);
     let mut k = 0;
     while k < most {
-        finite = advance(s, finite, f, post);
+        plain = advance(s, plain, f, post);
         k += 1;
         let found = check_after(s, checks, k, residual, f, u);
         match found {

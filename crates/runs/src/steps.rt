@@ -2,32 +2,20 @@
 use crate::passes::collide;
 use settings::Settings;
 ghost use mathlib.Core.Path.{_≡_};
-ghost use mathlib.Core.Bool.{false};
-ghost use Rattle.number.specs.Joined.{clearOf};
-ghost use Rattle.grid.specs.Finite.{joinedBuffer};
-ghost use Rattle.streaming.specs.Lines.{carriedJoin};
 ghost use Rattle.runs.specs.Passes.{Ready, Vouched};
 ghost use Rattle.runs.specs.Steps as Steps;
-ghost use Rattle.runs.specs.Steps.{collidedBuffer, state, oneStep, left, stepOf, runOf};
+ghost use Rattle.runs.specs.Steps.{state, oneStep, left, stepOf, runOf};
 
-// Whether every entry of f is finite.
-pub fn all_finite(f: &[u64]) -> bool
-    ensures { λ r. ⌜ r ≡ clearOf (joinedBuffer (now (f .entry))) ⌝ }
-{
-    number::clear(grid::joined(f))
-}
-
-// One step: afterwards post holds the post-collision state. `finite` where every entry of f is known to be finite; the answer says the
-// same of the new f, by the patterns that were carried, joined.
-pub fn advance(s: Settings, finite: bool, f: &mut [u64], post: &mut [u64]) -> bool
-    requires { ⌜ Ready s (now f) (now post) × Vouched finite (now f) ⌝ }
+// One step: afterwards post holds the post-collision state. `plain` where every entry of f is known to be plain; the answer is the
+// same of the new f, told from the bits that were written.
+pub fn advance(s: Settings, plain: bool, f: &mut [u64], post: &mut [u64]) -> bool
+    requires { ⌜ Ready s (now f) (now post) × Vouched plain (now f) ⌝ }
     ensures stepped { λ _. ⌜ state (now (f .exit)) (now (post .exit)) ≡ oneStep s (now (f .entry)) ⌝ }
-    ensures vouched { λ r. ⌜ Vouched r (now (f .exit)) ⌝ }
-    ensures told { λ r. ⌜ r ≡ clearOf (carriedJoin false s (collidedBuffer s (now (f .entry)))) ⌝ }
+    ensures told { λ r. ⌜ Vouched r (now (f .exit)) ⌝ }
 {
-    collide(s, finite, f, post);
+    collide(s, plain, f, post);
     let bits = streaming::carry(s, false, post, f);
-    number::clear(bits)
+    number::plain(bits)
 }
 
 fn advance_by(s: Settings, steps: u64, f: &mut [u64], post: &mut [u64])
@@ -35,10 +23,10 @@ fn advance_by(s: Settings, steps: u64, f: &mut [u64], post: &mut [u64])
     ensures { λ _. ⌜ state (now (f .exit)) (now (post .exit))
         ≡ Steps.steps s steps (state (now (f .entry)) (now (post .entry))) ⌝ }
 {
-    let mut finite = all_finite(f);
+    let mut plain = grid::all_plain(f);
     let mut k = 0;
     while k < steps {
-        finite = advance(s, finite, f, post);
+        plain = advance(s, plain, f, post);
         k += 1;
     }
 }

@@ -3,20 +3,19 @@ use Prim.Native.Nat.{_-_}
 use native.Mathlib.Omega.{arith}
 use borrow.Author.Needs.{needs}
 use Rattle.runs.specs.Steps.{state}
-use Rattle.runs.proofs.Stepwise.{first-vouched}
 use Rattle.runs.proofs.Settling.{Underway, begun, ran-out, turn, on}
 use Rattle.runs.proofs.steady.steady_steps.Statement.{statement}
 use Rattle.runs.proofs.steady.steady_steps.Tie as tie
 
 abbrev Inv-loop : tie.InvT-loop
-Inv-loop s checks f₀ post₀ u₀ most residual₀ finite₀ k₀ f post u residual finite k =
-    Underway s checks (state f₀ post₀) u₀ f post u residual finite k
+Inv-loop s checks f₀ post₀ u₀ most residual₀ plain₀ k₀ f post u residual plain k =
+    Underway s checks (state f₀ post₀) u₀ f post u residual plain k
 
 abbrev μ-loop : tie.MeasureT-loop
-μ-loop s checks f₀ post₀ u₀ most residual₀ finite₀ k₀ f post u residual finite k = most - k
+μ-loop s checks f₀ post₀ u₀ most residual₀ plain₀ k₀ f post u residual plain k = most - k
 
 loop-holds : tie.Need-loop-holds Inv-loop μ-loop
-loop-holds c = begun _ _ (c .before .before .before .before .before .pre) (first-vouched _ (c .all-finite .ensures))
+loop-holds c = begun _ _ (c .before .before .before .before .before .pre) (record { so = c .all-plain .ensures })
 
 check-after-requires : tie.Need-check-after-requires Inv-loop μ-loop
 check-after-requires c κs = search needs
@@ -26,21 +25,21 @@ returns c =
     let checked = c .before .before .before .before in
     let stepped = checked .before .before .before .before .before .before .before in
     let test = stepped .before .before .before in
-    rw (c .enum-told .given .1) at (turn _ _ (test .before .loop .inv) (test .loop-test .taken) (stepped .advance .ensures .0) (stepped .advance .ensures .1 .0) (checked .check-after .ensures))
+    rw (c .enum-told .given .1) at (turn _ _ (test .before .loop .inv) (test .loop-test .taken) (stepped .advance .ensures .0) (stepped .advance .ensures .1) (checked .check-after .ensures))
 
 returns-2 : tie.Need-returns-2 Inv-loop μ-loop
 returns-2 c =
     let checked = c .before .before .before .before .before in
     let stepped = checked .before .before .before .before .before .before .before in
     let test = stepped .before .before .before in
-    rw (c .before .found .given .1) at (turn _ _ (test .before .loop .inv) (test .loop-test .taken) (stepped .advance .ensures .0) (stepped .advance .ensures .1 .0) (checked .check-after .ensures))
+    rw (c .before .found .given .1) at (turn _ _ (test .before .loop .inv) (test .loop-test .taken) (stepped .advance .ensures .0) (stepped .advance .ensures .1) (checked .check-after .ensures))
 
 loop-again : tie.Need-loop-again Inv-loop μ-loop
 loop-again c =
     let checked = c .before .before .before .before .before in
     let stepped = checked .before .before .before .before .before .before .before in
     let test = stepped .before .before .before in
-    on _ _ (test .before .loop .inv) (test .loop-test .taken) (stepped .advance .ensures .0) (stepped .advance .ensures .1 .0) (checked .check-after .ensures) (c .before .found2 .given .1) (omega arith)
+    on _ _ (test .before .loop .inv) (test .loop-test .taken) (stepped .advance .ensures .0) (stepped .advance .ensures .1) (checked .check-after .ensures) (c .before .found2 .given .1) (omega arith)
 
 returns-3 : tie.Need-returns-3 Inv-loop μ-loop
 returns-3 c = ran-out _ _ (c .before .loop .inv) (c .loop-test .left)

@@ -1,10 +1,9 @@
--- `runs::steps::advance` meets its contract: what it collides into post it carries on into f, and the bits that it carried tell of f.
-use mathlib.Core.Path.{refl, ap, _∙_}
+-- `runs::steps::advance` meets its contract: what it collides into post it carries on into f, and the bits that it wrote tell of f.
+use mathlib.Core.Path.{refl, sym, _∙_}
 use native.Mathlib.Omega.{arith}
 use borrow.Author.Needs.{needs}
-use Rattle.number.specs.Joined.{clearOf}
 use Rattle.streaming.proofs.Turned.{contradiction}
-use Rattle.runs.proofs.Stepwise.{one-step, next-vouched}
+use Rattle.runs.proofs.Stepwise.{one-step}
 use Rattle.runs.proofs.steps.advance.Statement.{statement}
 use Rattle.runs.proofs.steps.advance.Tie as tie
 
@@ -18,8 +17,7 @@ returns : tie.Need-returns
 returns c =
     let on = c .before .before .before in
     let collided = on .before .before .before .before .before in
-    let bits = c .clear .ensures ∙ ap clearOf (on .carry .ensures .1) in
-    (one-step _ _ (collided .collide .ensures) (on .carry .ensures .0), (next-vouched _ _ (on .carry .ensures .0) bits, rw (collided .collide .ensures) at bits))
+    (one-step _ _ (collided .collide .ensures) (on .carry .ensures .0), record { so = λ h. on .carry .ensures .1 (sym (c .plain .ensures) ∙ h) })
 
 pub advance-spec : {M : Type 1} → statement M
 advance-spec =
