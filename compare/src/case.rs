@@ -1,7 +1,6 @@
 //! One call of the library, with all that it is given.
 
 use crate::made::Made;
-use crate::rules;
 use brothwagon::ffi;
 use source::d2q9::W;
 use std::fmt;
@@ -128,9 +127,16 @@ pub struct Case {
 }
 
 impl Case {
+    /// Whether the rules allow a grid of these sides.
+    pub fn has_grid(&self) -> bool {
+        let ffi::Settings { nx, ny, .. } = self.settings;
+        let side = 1..=4096;
+        side.contains(&nx) && side.contains(&ny) && nx * ny <= 1_048_576
+    }
+
     /// Cells of the grid. Where there is none of these sides, the buffers are as for a grid of four.
     pub fn cells(&self) -> usize {
-        if rules::wrong_sides(&self.settings) { 4 } else { (self.settings.nx * self.settings.ny) as usize }
+        if self.has_grid() { (self.settings.nx * self.settings.ny) as usize } else { 4 }
     }
 
     /// The length that a buffer should have.

@@ -34,7 +34,7 @@ fn tested(operation: Operation) -> &'static [u32] {
 fn applies(number: u32, case: &Case) -> bool {
     let s = &case.settings;
     match number {
-        1 => wrong_sides(s),
+        1 => !case.has_grid(),
         2 => case.operation.lent().iter().any(|&buffer| case.length(buffer) != case.right_length(buffer)),
         3 => wrong_rates(s),
         4 => !s.fx.is_finite() || !s.fy.is_finite(),
@@ -55,12 +55,6 @@ fn applies(number: u32, case: &Case) -> bool {
         11 => !(-1..=1).contains(&case.ex) || !(-1..=1).contains(&case.ey),
         _ => unreachable!("no test has the number {number}"),
     }
-}
-
-/// Number 1.
-pub fn wrong_sides(s: &Settings) -> bool {
-    let side = 1..=4096;
-    !side.contains(&s.nx) || !side.contains(&s.ny) || s.nx * s.ny > 1_048_576
 }
 
 /// Number 3. A kind of collision that is none of the three counts as a Trt without a rate.

@@ -4,7 +4,7 @@ use lossless::Answer;
 use runs::Steady;
 ghost use mathlib.Core.Path.{_≡_};
 ghost use Rattle.lattice.specs.Lookup.{dirIndexOf};
-ghost use Rattle.settings.specs.Outcome.{Written};
+ghost use Rattle.settings.specs.Outcome.{outcome};
 ghost use Rattle.streaming.specs.Streaming.{streamedWithFaces};
 ghost use Rattle.lossless.specs.Lossless.{reply, losslessOf, reversedOf};
 ghost use Rattle.readings.specs.Readings.{initialized, densityRead, velocityRead, velocityFieldRead, totalMassRead, kineticEnergyRead};
@@ -17,7 +17,8 @@ ghost use Rattle.brothwagon.specs.Exported.{readingTold, velocityTold, p
 
 #[no_mangle]
 pub extern "C" fn brothwagon_initialize(w: &[u64; 19], table: &[u64], f: &mut [u64]) -> u32
-    ensures { λ r. ⌜ _≡_ {A = Written} (record { number = r; buffer = now (f .exit) }) (initialized (settingsOf (now (w .entry))) (now (table .entry)) (now (f .entry))) ⌝ }
+    ensures { λ r. ⌜ outcome r (now (f .exit))
+        ≡ initialized (settingsOf (now (w .entry))) (now (table .entry)) (now (f .entry)) ⌝ }
 {
     readings::initialize(host::settings_of(w), table, f)
 }
@@ -30,7 +31,8 @@ pub extern "C" fn brothwagon_density(
     y: usize,
     rho: &mut [u64; 1],
 ) -> u32
-    ensures { λ r. ⌜ _≡_ {A = Written} (record { number = r; buffer = now (rho .exit) }) (readingTold (densityRead (settingsOf (now (w .entry))) (now (f .entry)) x y)) ⌝ }
+    ensures { λ r. ⌜ outcome r (now (rho .exit))
+        ≡ readingTold (densityRead (settingsOf (now (w .entry))) (now (f .entry)) x y) ⌝ }
 {
     let r = readings::density(host::settings_of(w), f, x, y);
     *rho = [number::pattern(r.value)];
@@ -45,7 +47,8 @@ pub extern "C" fn brothwagon_velocity(
     y: usize,
     u: &mut [u64; 2],
 ) -> u32
-    ensures { λ r. ⌜ _≡_ {A = Written} (record { number = r; buffer = now (u .exit) }) (velocityTold (velocityRead (settingsOf (now (w .entry))) (now (f .entry)) x y)) ⌝ }
+    ensures { λ r. ⌜ outcome r (now (u .exit))
+        ≡ velocityTold (velocityRead (settingsOf (now (w .entry))) (now (f .entry)) x y) ⌝ }
 {
     let r = readings::velocity(host::settings_of(w), f, x, y);
     *u = [number::pattern(r.ux), number::pattern(r.uy)];
@@ -54,14 +57,16 @@ pub extern "C" fn brothwagon_velocity(
 
 #[no_mangle]
 pub extern "C" fn brothwagon_velocity_field(w: &[u64; 19], f: &[u64], u: &mut [u64]) -> u32
-    ensures { λ r. ⌜ _≡_ {A = Written} (record { number = r; buffer = now (u .exit) }) (velocityFieldRead (settingsOf (now (w .entry))) (now (f .entry)) (now (u .entry))) ⌝ }
+    ensures { λ r. ⌜ outcome r (now (u .exit))
+        ≡ velocityFieldRead (settingsOf (now (w .entry))) (now (f .entry)) (now (u .entry)) ⌝ }
 {
     readings::velocity_field(host::settings_of(w), f, u)
 }
 
 #[no_mangle]
 pub extern "C" fn brothwagon_total_mass(w: &[u64; 19], f: &[u64], mass: &mut [u64; 1]) -> u32
-    ensures { λ r. ⌜ _≡_ {A = Written} (record { number = r; buffer = now (mass .exit) }) (readingTold (totalMassRead (settingsOf (now (w .entry))) (now (f .entry)))) ⌝ }
+    ensures { λ r. ⌜ outcome r (now (mass .exit))
+        ≡ readingTold (totalMassRead (settingsOf (now (w .entry))) (now (f .entry))) ⌝ }
 {
     let r = readings::total_mass(host::settings_of(w), f);
     *mass = [number::pattern(r.value)];
@@ -70,7 +75,8 @@ pub extern "C" fn brothwagon_total_mass(w: &[u64; 19], f: &[u64], mass: &mut [u6
 
 #[no_mangle]
 pub extern "C" fn brothwagon_kinetic_energy(w: &[u64; 19], f: &[u64], energy: &mut [u64; 1]) -> u32
-    ensures { λ r. ⌜ _≡_ {A = Written} (record { number = r; buffer = now (energy .exit) }) (readingTold (kineticEnergyRead (settingsOf (now (w .entry))) (now (f .entry)))) ⌝ }
+    ensures { λ r. ⌜ outcome r (now (energy .exit))
+        ≡ readingTold (kineticEnergyRead (settingsOf (now (w .entry))) (now (f .entry))) ⌝ }
 {
     let r = readings::kinetic_energy(host::settings_of(w), f);
     *energy = [number::pattern(r.value)];
@@ -85,7 +91,8 @@ pub extern "C" fn brothwagon_plane(
     direction: usize,
     part: &mut [u64; 2],
 ) -> u32
-    ensures { λ r. ⌜ _≡_ {A = Written} (record { number = r; buffer = now (part .exit) }) (planeTold (settingsOf (now (w .entry))) (now (f .entry)) direction) ⌝ }
+    ensures { λ r. ⌜ outcome r (now (part .exit))
+        ≡ planeTold (settingsOf (now (w .entry))) (now (f .entry)) direction ⌝ }
 {
     let s = host::settings_of(w);
     let number = readings::plane_refusal(s, f, direction);
@@ -98,14 +105,16 @@ pub extern "C" fn brothwagon_plane(
 
 #[no_mangle]
 pub extern "C" fn brothwagon_stream_with_faces(w: &[u64; 19], post: &[u64], f: &mut [u64]) -> u32
-    ensures { λ r. ⌜ _≡_ {A = Written} (record { number = r; buffer = now (f .exit) }) (streamedWithFaces (settingsOf (now (w .entry))) (now (post .entry)) (now (f .entry))) ⌝ }
+    ensures { λ r. ⌜ outcome r (now (f .exit))
+        ≡ streamedWithFaces (settingsOf (now (w .entry))) (now (post .entry)) (now (f .entry)) ⌝ }
 {
     streaming::stream_with_faces(host::settings_of(w), post, f)
 }
 
 #[no_mangle]
 pub extern "C" fn brothwagon_lossless(w: &[u64; 19], answer: &mut [u64; 4]) -> u32
-    ensures { λ r. ⌜ _≡_ {A = Written} (record { number = r; buffer = now (answer .exit) }) (losslessTold (reply (losslessOf (settingsOf (now (w .entry)))))) ⌝ }
+    ensures { λ r. ⌜ outcome r (now (answer .exit))
+        ≡ losslessTold (reply (losslessOf (settingsOf (now (w .entry))))) ⌝ }
 {
     let a = lossless::lossless(host::settings_of(w));
     match a {
@@ -126,7 +135,8 @@ pub extern "C" fn brothwagon_lossless(w: &[u64; 19], answer: &mut [u64; 4]) -> u
 
 #[no_mangle]
 pub extern "C" fn brothwagon_reverse(w: &[u64; 19], f: &[u64], post: &mut [u64]) -> u32
-    ensures { λ r. ⌜ _≡_ {A = Written} (record { number = r; buffer = now (post .exit) }) (reversedOf (settingsOf (now (w .entry))) (now (f .entry)) (now (post .entry))) ⌝ }
+    ensures { λ r. ⌜ outcome r (now (post .exit))
+        ≡ reversedOf (settingsOf (now (w .entry))) (now (f .entry)) (now (post .entry)) ⌝ }
 {
     lossless::reverse(host::settings_of(w), f, post)
 }
@@ -186,7 +196,7 @@ pub extern "C" fn brothwagon_run_to_steady_state(
 
 #[no_mangle]
 pub extern "C" fn brothwagon_dir_index(ex: i32, ey: i32, direction: &mut [u64; 1]) -> u32
-    ensures { λ r. ⌜ _≡_ {A = Written} (record { number = r; buffer = now (direction .exit) }) (directionTold (dirIndexOf ex ey)) ⌝ }
+    ensures { λ r. ⌜ outcome r (now (direction .exit)) ≡ directionTold (dirIndexOf ex ey) ⌝ }
 {
     let found = lattice::dir_index(ex, ey);
     *direction = [found.direction as u64];

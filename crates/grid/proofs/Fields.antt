@@ -1,16 +1,18 @@
 -- Buffers of one size and fields on the grid determine each other, so that a contract on either is one on the other.
 -- Assumes nothing.
 use mathlib.Core.Path.{_≡_, refl, sym, ap, _∙_}
-use mathlib.Core.List.{List}
+use mathlib.Core.List.{List, [], _∷_}
 use Prim.Native.Nat.{ℕ, zero, suc, _+_, _*_, _<_}
 use native.Mathlib.Nat.{le-of-suc-le-suc}
 use native.Mathlib.Omega.{arith}
 use lib.ListN.{length, getD}
 use lib.Seq.{ext-getD}
+use lib.Ieee.{Float}
 use Rattle.number.specs.Number.{valueOf}
 use Rattle.number.specs.Nine.{nine}
+use Rattle.number.proofs.Nine.{nine-of}
 use Rattle.grid.specs.Grid.{Grid, Field, fieldOf, listed, bufferOf, Same, cellOf, Holds}
-use Rattle.grid.proofs.Radix.{index-in, column-of, row-of, direction-of, place-of, within}
+use Rattle.grid.proofs.Radix.{index-in, column-of, row-of, direction-of, place-of, within, cell-in}
 
 -- ---- lists by their entries
 
@@ -76,3 +78,24 @@ module _ (nx ny : ℕ) where
   pub cell-of-field : (b : List ℕ) (x y : ℕ) → cellOf b (nx * ny) (x + y * nx) ≡ nine (λ i. valueOf (fieldOf nx ny b x y i))
   unfolding cellOf fieldOf
   cell-of-field b x y = refl
+
+-- ---- the entries of a cell
+
+-- each stands in the buffer
+pub held : {b : List ℕ} {n c i : ℕ} → Holds b n c → i < 9 → c + i * n < 9 * n
+held {n = n} {c = c} {i = i} h hi = cell-in n c i (h .cell) hi
+
+-- the nine of them, read one after the other
+pub gathered : (b : List ℕ) (n c : ℕ) {v0 v1 v2 v3 v4 v5 v6 v7 v8 : Float}
+    → v0 ≡ valueOf (getD b (c + 0 * n) 0)
+    → v1 ≡ valueOf (getD b (c + 1 * n) 0)
+    → v2 ≡ valueOf (getD b (c + 2 * n) 0)
+    → v3 ≡ valueOf (getD b (c + 3 * n) 0)
+    → v4 ≡ valueOf (getD b (c + 4 * n) 0)
+    → v5 ≡ valueOf (getD b (c + 5 * n) 0)
+    → v6 ≡ valueOf (getD b (c + 6 * n) 0)
+    → v7 ≡ valueOf (getD b (c + 7 * n) 0)
+    → v8 ≡ valueOf (getD b (c + 8 * n) 0)
+    → (v0 ∷ v1 ∷ v2 ∷ v3 ∷ v4 ∷ v5 ∷ v6 ∷ v7 ∷ v8 ∷ []) ≡ cellOf b n c
+unfolding cellOf
+gathered b n c = nine-of (λ i. valueOf (getD b (c + i * n) 0))

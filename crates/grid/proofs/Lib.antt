@@ -1,4 +1,4 @@
 pub mod Radix
 pub mod Fields
 pub mod Writes
-pub mod Telling
+pub mod Finite

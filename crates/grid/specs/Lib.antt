@@ -1,3 +1,3 @@
 pub mod Grid
 pub mod Writes
-pub mod Plain
+pub mod Finite

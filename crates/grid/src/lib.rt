@@ -1,13 +1,13 @@
 // A grid's cells in a lent buffer: entry i of cell c of n stands at c + i·n, where c = x + y·nx and n = nx·ny.
 ghost use mathlib.Core.Path.{_≡_};
-ghost use mathlib.Core.Bool.{true};
 ghost use Prim.Native.Nat.{_+_, _*_, _≤_, _<_};
 ghost use lib.ListN.{length, getD, set};
 ghost use Rattle.number.specs.Number.{valueOf, patternOf};
 ghost use Rattle.number.specs.Nine.{at};
+ghost use Rattle.number.specs.Joined.{joinedTo};
 ghost use Rattle.grid.specs.Grid.{cellOf, Holds};
 ghost use Rattle.grid.specs.Writes.{Wrote, Put};
-ghost use Rattle.grid.specs.Plain.{AllPlain, Told};
+ghost use Rattle.grid.specs.Finite.{AllFinite, joinedBuffer};
 
 // The largest side and the most cells of a grid: `mostSide` and `mostCells`.
 pub const MOST_SIDE: usize = 4096;
@@ -49,42 +49,42 @@ pub fn gather(f: &[u64], n: usize, c: usize) -> [f64; 9]
     ]
 }
 
-// Whether every entry is plain, told from their bits joined.
-pub fn all_plain(b: &[u64]) -> bool
-    ensures { λ r. ⌜ (r ≡ true → AllPlain (now (b .entry))) ⌝ }
+// The raised patterns of all entries, joined: clear exactly where every entry is finite.
+pub fn joined(b: &[u64]) -> u64
+    ensures { λ r. ⌜ r ≡ joinedBuffer (now (b .entry)) ⌝ }
 {
-    let mut all = 0;
+    let mut bits = 0;
     let mut k = 0;
     while k < b.len() {
-        all = all | b[k];
+        bits = bits | number::raised(b[k]);
         k += 1;
     }
-    number::plain(all)
+    bits
 }
 
 // Entry i of cell c, with no test for a NaN.
-fn get_plain(f: &[u64], n: usize, c: usize, i: usize) -> f64
-    requires { ⌜ Holds (now f) n c × (i < 9) × AllPlain (now f) ⌝ }
+fn get_finite(f: &[u64], n: usize, c: usize, i: usize) -> f64
+    requires { ⌜ Holds (now f) n c × (i < 9) × AllFinite (now f) ⌝ }
     ensures { λ r. ⌜ r ≡ valueOf (getD (now (f .entry)) (c + i * n) 0) ⌝ }
 {
-    number::plain_value(f[c + i * n])
+    number::finite_value(f[c + i * n])
 }
 
-// The nine populations of cell c of a buffer whose entries are all plain: nine tests fewer than `gather` has.
-pub fn gather_plain(f: &[u64], n: usize, c: usize) -> [f64; 9]
-    requires { ⌜ Holds (now f) n c × AllPlain (now f) ⌝ }
+// The nine populations of cell c of a buffer whose entries are all finite: nine tests fewer than `gather` has.
+pub fn gather_finite(f: &[u64], n: usize, c: usize) -> [f64; 9]
+    requires { ⌜ Holds (now f) n c × AllFinite (now f) ⌝ }
     ensures { λ r. ⌜ r ≡ cellOf (now (f .entry)) n c ⌝ }
 {
     [
-        get_plain(f, n, c, 0),
-        get_plain(f, n, c, 1),
-        get_plain(f, n, c, 2),
-        get_plain(f, n, c, 3),
-        get_plain(f, n, c, 4),
-        get_plain(f, n, c, 5),
-        get_plain(f, n, c, 6),
-        get_plain(f, n, c, 7),
-        get_plain(f, n, c, 8),
+        get_finite(f, n, c, 0),
+        get_finite(f, n, c, 1),
+        get_finite(f, n, c, 2),
+        get_finite(f, n, c, 3),
+        get_finite(f, n, c, 4),
+        get_finite(f, n, c, 5),
+        get_finite(f, n, c, 6),
+        get_finite(f, n, c, 7),
+        get_finite(f, n, c, 8),
     ]
 }
 
@@ -104,18 +104,18 @@ pub fn put_back(f: &mut [u64], n: usize, c: usize, v: [f64; 9])
     set_f(f, n, c, 8, v[8]);
 }
 
-// Copies the n entries of src from `from` on to dst from `to` on, every bit of them, and answers their bits joined.
+// Copies the n entries of src from `from` on to dst from `to` on, every bit of them, and answers their raised patterns joined.
 pub fn copy(src: &[u64], from: usize, dst: &mut [u64], to: usize, n: usize) -> u64
     requires { ⌜ (from + n ≤ length (now src)) × (to + n ≤ length (now dst)) ⌝ }
     ensures wrote { λ _. ⌜ Wrote (now (dst .entry)) (now (dst .exit)) to n (λ k. getD (now (src .entry)) (from + k) 0) ⌝ }
-    ensures told { λ r. ⌜ Told r (now (dst .exit)) to n ⌝ }
+    ensures joined { λ r. ⌜ r ≡ joinedTo (λ k. getD (now (src .entry)) (from + k) 0) n ⌝ }
 {
     let mut all = 0;
     let mut k = 0;
     while k < n {
         let b = src[from + k];
         dst[to + k] = b;
-        all = all | b;
+        all = all | number::raised(b);
         k += 1;
     }
     all

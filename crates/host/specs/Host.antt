@@ -15,8 +15,8 @@ use Rattle.settings.specs.declared.Settings.{Settings}
 
 -- a face from its kind and its numbers: 0 Periodic, 1 NoSlip, 2 MovingWall, 3 Symmetry, 4 Velocity, 5 Pressure;
 -- any other kind is Pressure(NaN), which number 5 refuses
-unfoldable pub faceOf : ℕ → Float → Float → Face
-faceOf kind a b =
+unfoldable pub faceOfKind : ℕ → Float → Float → Face
+faceOfKind kind a b =
     cond (eqb kind 0) Periodic
     (cond (eqb kind 1) NoSlip
     (cond (eqb kind 2) (MovingWall a b)
@@ -26,8 +26,8 @@ faceOf kind a b =
     (Pressure nan))))))
 
 -- a collision: 0 Bgk, 1 Mrt, 2 Trt; any other is Trt(NaN), which number 3 refuses
-unfoldable pub collisionOf : ℕ → Float → Collision
-collisionOf kind rate = cond (eqb kind 0) Bgk (cond (eqb kind 1) Mrt (cond (eqb kind 2) (Trt rate) (Trt nan)))
+unfoldable pub collisionOfKind : ℕ → Float → Collision
+collisionOfKind kind rate = cond (eqb kind 0) Bgk (cond (eqb kind 1) Mrt (cond (eqb kind 2) (Trt rate) (Trt nan)))
 
 -- word k as a whole number, and as an f64
 abbrev pub wordAt : List ℕ → ℕ → ℕ
@@ -38,7 +38,7 @@ numberAt w k = valueOf (getD w k 0)
 
 -- the face of the three words from k on
 abbrev pub faceAt : List ℕ → ℕ → Face
-faceAt w k = faceOf (wordAt w k) (numberAt w (k + 1)) (numberAt w (k + 2))
+faceAt w k = faceOfKind (wordAt w k) (numberAt w (k + 1)) (numberAt w (k + 2))
 
 unfoldable pub settingsOf : List ℕ → Settings
 settingsOf w = record {
@@ -47,7 +47,7 @@ settingsOf w = record {
   nu = numberAt w 2;
   fx = numberAt w 3;
   fy = numberAt w 4;
-  collision = collisionOf (wordAt w 5) (numberAt w 6);
+  collision = collisionOfKind (wordAt w 5) (numberAt w 6);
   «x_min» = faceAt w 7;
   «x_max» = faceAt w 10;
   «y_min» = faceAt w 13;

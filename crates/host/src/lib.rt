@@ -4,12 +4,12 @@ use settings::Face;
 use settings::Settings;
 ghost use mathlib.Core.Path.{_≡_};
 ghost use Prim.Native.Nat.{_<_};
-ghost use Rattle.host.specs.Host.{faceOf, collisionOf, wordAt, numberAt, faceAt, settingsOf};
+ghost use Rattle.host.specs.Host.{faceOfKind, collisionOfKind, wordAt, numberAt, faceAt, settingsOf};
 
 // ---- the settings, from the words of the C struct
 
-fn face_of(kind: u64, a: f64, b: f64) -> Face
-    ensures { λ r. ⌜ r ≡ faceOf kind a b ⌝ }
+fn face_of_kind(kind: u64, a: f64, b: f64) -> Face
+    ensures { λ r. ⌜ r ≡ faceOfKind kind a b ⌝ }
 {
     if kind == 0 {
         return Face::Periodic;
@@ -33,8 +33,8 @@ fn face_of(kind: u64, a: f64, b: f64) -> Face
     Face::Pressure(0.0 / 0.0)
 }
 
-fn collision_of(kind: u64, rate: f64) -> Collision
-    ensures { λ r. ⌜ r ≡ collisionOf kind rate ⌝ }
+fn collision_of_kind(kind: u64, rate: f64) -> Collision
+    ensures { λ r. ⌜ r ≡ collisionOfKind kind rate ⌝ }
 {
     if kind == 0 {
         return Collision::Bgk;
@@ -54,13 +54,13 @@ fn face_at(w: &[u64; 19], k: usize) -> Face
     requires { ⌜ k < 17 ⌝ }
     ensures { λ r. ⌜ r ≡ faceAt (now (w .entry)) k ⌝ }
 {
-    face_of(w[k], number::value(w[k + 1]), number::value(w[k + 2]))
+    face_of_kind(w[k], number::value(w[k + 1]), number::value(w[k + 2]))
 }
 
 fn collision_at(w: &[u64; 19]) -> Collision
-    ensures { λ r. ⌜ r ≡ collisionOf (wordAt (now (w .entry)) 5) (numberAt (now (w .entry)) 6) ⌝ }
+    ensures { λ r. ⌜ r ≡ collisionOfKind (wordAt (now (w .entry)) 5) (numberAt (now (w .entry)) 6) ⌝ }
 {
-    collision_of(w[5], number::value(w[6]))
+    collision_of_kind(w[5], number::value(w[6]))
 }
 
 pub fn settings_of(w: &[u64; 19]) -> Settings

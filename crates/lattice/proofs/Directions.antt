@@ -10,7 +10,9 @@ use lib.IntN.{ℤ, pos, negsuc}
 use lib.Ieee.Bits.{is-true}
 use borrow.Author.Tests.{eqb-true, eqb-false}
 use Rattle.lattice.specs.declared.Found.{Found}
-use Rattle.lattice.specs.Lattice.{Axis, X, Y, E}
+use Rattle.lattice.specs.declared.Axis.{Axis}
+use Rattle.lattice.specs.declared.Axis.the-variants.{X, Y}
+use Rattle.lattice.specs.Lattice.{E}
 use Rattle.lattice.specs.Lookup.{sameℤ, isRow, lookup, dirIndexOf}
 
 -- ---- the test of a row
@@ -63,13 +65,13 @@ none-left i a b h = let n : 9 - i ≡ 0 = omega arith in rw n
 -- ---- number 11
 
 -- what the search of the n rows from i on says: the direction of a row that is the pair, or that none of them is
-pub record Told (i n : ℕ) (a b : ℤ) (r : Found) : Type 0 where
+pub record Searched (i n : ℕ) (a b : ℤ) (r : Found) : Type 0 where
   pub number : (r .number ≡ 0 → ⊥) → r .number ≡ 11
   pub given : r .number ≡ 0 → (i ≤ r .direction) × (r .direction < i + n) × Row (r .direction) a b
   pub missing : r .number ≡ 11 → (k : ℕ) → i ≤ k → k < i + n → Row k a b → ⊥
 
 -- the search of one row more
-more : (i n : ℕ) (a b : ℤ) (r : Found) → isRow i a b ≡ false → Told (suc i) n a b r → Told i (suc n) a b r
+more : (i n : ℕ) (a b : ℤ) (r : Found) → isRow i a b ≡ false → Searched (suc i) n a b r → Searched i (suc n) a b r
 more i n a b r e t = record {
   number = t .number;
   given = λ z. let g = t .given z in (omega arith, omega arith, g .2);
@@ -80,12 +82,12 @@ more i n a b r e t = record {
     by-place k l u w true q z = absurd (subst T (sym (is-row i a b (subst (λ (j : ℕ). Row j a b) (eqb-true k i q) w)) ∙ e) tt)
     by-place k l u w false q z = let d = eqb-false k i q in t .missing z k (omega arith) (omega arith) w
 
-told : (i n : ℕ) (a b : ℤ) → Told i n a b (lookup i n a b)
+searched : (i n : ℕ) (a b : ℤ) → Searched i n a b (lookup i n a b)
 unfolding lookup
-told i zero a b = record { number = λ _. refl; given = λ e. absurd (omega (arith, e)); missing = λ e k l u r. omega arith }
-told i (suc n) a b = by-test (isRow i a b) refl (told (suc i) n a b)
+searched i zero a b = record { number = λ _. refl; given = λ e. absurd (omega (arith, e)); missing = λ e k l u r. omega arith }
+searched i (suc n) a b = by-test (isRow i a b) refl (searched (suc i) n a b)
   where
-    by-test : (p : Bool) → isRow i a b ≡ p → Told (suc i) n a b (lookup (suc i) n a b) → Told i (suc n) a b (cond p (record { number = 0; direction = i }) (lookup (suc i) n a b))
+    by-test : (p : Bool) → isRow i a b ≡ p → Searched (suc i) n a b (lookup (suc i) n a b) → Searched i (suc n) a b (cond p (record { number = 0; direction = i }) (lookup (suc i) n a b))
     by-test true e t = record {
       number = λ no. absurd (no refl);
       given = λ _. (omega arith, omega arith, row-is i a b e);
@@ -94,5 +96,5 @@ told i (suc n) a b = by-test (isRow i a b) refl (told (suc i) n a b)
     by-test false e t = more i n a b _ e t
 
 -- number 11 if and only if no row of E is (a, b); and any other answer is number 0 with the row's direction
-pub exactly-when : (a b : ℤ) → Told 0 9 a b (dirIndexOf a b)
-exactly-when a b = told 0 9 a b
+pub exactly-when : (a b : ℤ) → Searched 0 9 a b (dirIndexOf a b)
+exactly-when a b = searched 0 9 a b

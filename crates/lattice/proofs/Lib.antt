@@ -1,3 +1,4 @@
 pub mod Tables
 pub mod Directions
 pub mod One
+pub mod Frames

@@ -9,7 +9,9 @@ use borrow.Author.Tests.{ltb-true}
 use lib.IntN.{negℤ}
 use Rattle.number.specs.Nine.{nine}
 use Rattle.number.proofs.Nine.{all-nine}
-use Rattle.lattice.specs.Lattice.{Axis, X, Y, directions, E, opposites, OPP, basis, norms, dot, diagonal, sumℤ}
+use Rattle.lattice.specs.declared.Axis.{Axis}
+use Rattle.lattice.specs.declared.Axis.the-variants.{X, Y}
+use Rattle.lattice.specs.Lattice.{directions, E, opposites, OPP, basis, norms, dot, diagonal, sumℤ}
 use Rattle.lattice.specs.Lookup.{isRow, lookup, mirror}
 
 -- E of OPP is the negated E

@@ -9,9 +9,8 @@ use lib.IntN.{ℤ, pos, negsuc, _+ℤ_, _*ℤ_}
 use lib.Ieee.{Float, binary64, ofInt}
 use Rattle.number.specs.Number.{c1, c4, c9, c36, _⊘_}
 use Rattle.number.specs.Nine.{at}
-
-pub data Axis : Type 0 where
-  X Y : Axis
+use Rattle.lattice.specs.declared.Axis.{Axis}
+use Rattle.lattice.specs.declared.Axis.the-variants.{X, Y}
 
 -- ---- E, the nine directions
 

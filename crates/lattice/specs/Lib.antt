@@ -1,2 +1,3 @@
 pub mod Lattice
 pub mod Lookup
+pub mod Sides

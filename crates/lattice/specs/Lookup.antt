@@ -7,7 +7,9 @@ use lib.Dec.{eqb}
 use lib.ListN.{getD}
 use lib.IntN.{ℤ, pos, negsuc, negℤ}
 use Rattle.lattice.specs.declared.Found.{Found}
-use Rattle.lattice.specs.Lattice.{Axis, X, Y, directions, E}
+use Rattle.lattice.specs.declared.Axis.{Axis}
+use Rattle.lattice.specs.declared.Axis.the-variants.{X, Y}
+use Rattle.lattice.specs.Lattice.{directions, E}
 
 abbrev pub sameℤ : ℤ → ℤ → Bool
 sameℤ (pos m) (pos n) = eqb m n
@@ -32,8 +34,3 @@ dirIndexOf a b = lookup 0 9 a b
 unfoldable pub mirror : Axis → ℕ → ℕ
 mirror X i = dirIndexOf (negℤ (E i X)) (E i Y) .direction
 mirror Y i = dirIndexOf (E i X) (negℤ (E i Y)) .direction
-
--- the code's number for an axis: 0 for x, any other for y
-abbrev pub axisOf : ℕ → Axis
-axisOf zero = X
-axisOf (suc a) = Y

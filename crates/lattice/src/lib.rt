@@ -7,8 +7,24 @@
 //   7   4   8
 ghost use mathlib.Core.Path.{_≡_};
 ghost use Prim.Native.Nat.{_<_};
-ghost use Rattle.lattice.specs.Lattice.{X, Y, ex, ey, W, OPP, basisFloats, normFloats};
-ghost use Rattle.lattice.specs.Lookup.{isRow, dirIndexOf, axisOf, mirror};
+ghost use lib.Ieee.{binary64, ofInt};
+ghost use Rattle.number.specs.Number.{_⊕_, _⊗_};
+ghost use Rattle.lattice.specs.Lattice as Lattice;
+ghost use Rattle.lattice.specs.Lattice.{ex, ey, W, OPP, basisFloats, normFloats};
+ghost use Rattle.lattice.specs.Lookup.{isRow, dirIndexOf, mirror};
+ghost use Rattle.lattice.specs.Sides as Sides;
+ghost use Rattle.lattice.specs.Sides.{normal, tangent, frameOf};
+
+// The axes of a grid, and the two sides of each, on which its faces are.
+pub enum Axis {
+    X,
+    Y,
+}
+
+pub enum Side {
+    Min,
+    Max,
+}
 
 // The directions' components along x and y.
 pub const E: [[i32; 2]; 9] = [
@@ -55,7 +71,17 @@ pub const M: [[f64; 9]; 9] = [
 // Each row of M with itself.
 pub const M_NORM: [f64; 9] = [9.0, 36.0, 36.0, 6.0, 12.0, 6.0, 12.0, 4.0, 4.0];
 
-// The components of direction i, its weight and its opposite.
+// The components of direction i, whole and as f64; its weight and its opposite.
+pub fn component(i: usize, axis: Axis) -> i32
+    requires { ⌜ i < 9 ⌝ }
+    ensures { λ r. ⌜ r ≡ Lattice.E i axis ⌝ }
+{
+    match axis {
+        Axis::X => E[i][0],
+        Axis::Y => E[i][1],
+    }
+}
+
 pub fn e_x(i: usize) -> f64
     requires { ⌜ i < 9 ⌝ }
     ensures { λ r. ⌜ r ≡ ex i ⌝ }
@@ -130,17 +156,78 @@ pub fn dir_index(ex: i32, ey: i32) -> Found
     }
 }
 
-// The direction with the component along the axis (0 for x, 1 for y) negated.
-pub fn mirror_index(i: usize, axis: usize) -> usize
+// The direction with the component along the axis negated.
+pub fn mirror_index(i: usize, axis: Axis) -> usize
     requires { ⌜ i < 9 ⌝ }
-    ensures { λ r. ⌜ (r ≡ mirror (axisOf axis) i) × (r < 9) ⌝ }
+    ensures { λ r. ⌜ (r ≡ mirror axis i) × (r < 9) ⌝ }
 {
     let ex = E[i][0];
     let ey = E[i][1];
-    let found = if axis == 0 {
-        dir_index(-ex, ey)
-    } else {
-        dir_index(ex, -ey)
+    let found = match axis {
+        Axis::X => dir_index(-ex, ey),
+        Axis::Y => dir_index(ex, -ey),
     };
     found.direction
+}
+
+// ---- the faces, by axis and side
+
+// The inward normal and the tangent of a face.
+pub struct Frame {
+    pub n0: i32,
+    pub n1: i32,
+    pub t0: i32,
+    pub t1: i32,
+}
+
+// The component of the inward normal across the face.
+fn sign(side: Side) -> i32
+    ensures { λ r. ⌜ r ≡ Sides.sign side ⌝ }
+{
+    match side {
+        Side::Min => 1,
+        Side::Max => -1,
+    }
+}
+
+pub fn frame_of(axis: Axis, side: Side) -> Frame
+    ensures { λ r. ⌜ r ≡ frameOf axis side ⌝ }
+{
+    let s = sign(side);
+    match axis {
+        Axis::X => Frame {
+            n0: s,
+            n1: 0,
+            t0: 0,
+            t1: 1,
+        },
+        Axis::Y => Frame {
+            n0: 0,
+            n1: s,
+            t0: 1,
+            t1: 0,
+        },
+    }
+}
+
+// (u, v) along the vector (a, b).
+fn along(u: f64, v: f64, a: i32, b: i32) -> f64
+    ensures { λ r. ⌜ r ≡ u ⊗ ofInt binary64 a ⊕ v ⊗ ofInt binary64 b ⌝ }
+{
+    u * a as f64 + v * b as f64
+}
+
+// (u, v) along the normal of a face, and along its tangent.
+pub fn along_normal(axis: Axis, side: Side, u: f64, v: f64) -> f64
+    ensures { λ r. ⌜ r ≡ Sides.along u v (normal axis side) ⌝ }
+{
+    let g = frame_of(axis, side);
+    along(u, v, g.n0, g.n1)
+}
+
+pub fn along_tangent(axis: Axis, side: Side, u: f64, v: f64) -> f64
+    ensures { λ r. ⌜ r ≡ Sides.along u v (tangent axis) ⌝ }
+{
+    let g = frame_of(axis, side);
+    along(u, v, g.t0, g.t1)
 }

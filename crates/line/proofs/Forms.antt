@@ -23,14 +23,14 @@ abbrev isWord : List ℕ → Bool
 isWord [] = true
 isWord (b ∷ rest) = not (eqb b space) && isWord rest
 
-before-word : (ws rest : List ℕ) → isWord ws ≡ true → before (ws ++ space ∷ rest) ≡ ws
+before-word : (ws rest : List ℕ) → isWord ws ≡ true → before space (ws ++ space ∷ rest) ≡ ws
 unfolding before
 before-word [] rest e = refl
 before-word (b ∷ ws) rest e =
     let q = both (not (eqb b space)) (isWord ws) e in
     rw (not-true (eqb b space) (q .0)) (ap (λ (l : List ℕ). b ∷ l) (before-word ws rest (q .1)))
 
-after-word : (ws rest : List ℕ) → isWord ws ≡ true → after (ws ++ space ∷ rest) ≡ rest
+after-word : (ws rest : List ℕ) → isWord ws ≡ true → after space (ws ++ space ∷ rest) ≡ rest
 unfolding after
 after-word [] rest e = refl
 after-word (b ∷ ws) rest e =
@@ -67,16 +67,16 @@ letters-word a b c d e =
 -- ---- a line of the form is readable, and asks what its parts say
 
 module _ (line : List ℕ) (a b c d : ℕ) (xs ys : List ℕ) (f : Form line a b c d xs ys) where
-  letters : before line ≡ a ∷ b ∷ c ∷ d ∷ []
+  letters : before space line ≡ a ∷ b ∷ c ∷ d ∷ []
   letters = rw (f .parts) (before-word (a ∷ b ∷ c ∷ d ∷ []) (xs ++ space ∷ ys) (letters-word a b c d (f .letters)))
 
-  sides : after line ≡ xs ++ space ∷ ys
+  sides : after space line ≡ xs ++ space ∷ ys
   sides = rw (f .parts) (after-word (a ∷ b ∷ c ∷ d ∷ []) (xs ++ space ∷ ys) (letters-word a b c d (f .letters)))
 
-  first : before (after line) ≡ xs
+  first : before space (after space line) ≡ xs
   first = rw sides (before-word xs ys (digits-word xs (side-told xs (f .x-side) .digits)))
 
-  second : after (after line) ≡ ys
+  second : after space (after space line) ≡ ys
   second = rw sides (after-word xs ys (digits-word xs (side-told xs (f .x-side) .digits)))
 
   few : length line ≤ mostBytes
@@ -97,13 +97,13 @@ module _ (line : List ℕ) (a b c d : ℕ) (xs ys : List ℕ) (f : Form line a b
 
 -- ---- a readable line is of the form
 
-joined : (s : List ℕ) → 1 ≤ length (after s) → s ≡ before s ++ space ∷ after s
+joined : (s : List ℕ) → 1 ≤ length (after space s) → s ≡ before space s ++ space ∷ after space s
 unfolding before after
 joined [] h = absurd (omega arith)
 joined (b ∷ rest) h = go (eqb b space) refl h (joined rest)
   where
-    go : (t : Bool) → eqb b space ≡ t → 1 ≤ length (after (b ∷ rest)) → (1 ≤ length (after rest) → rest ≡ before rest ++ space ∷ after rest)
-        → b ∷ rest ≡ before (b ∷ rest) ++ space ∷ after (b ∷ rest)
+    go : (t : Bool) → eqb b space ≡ t → 1 ≤ length (after space (b ∷ rest)) → (1 ≤ length (after space rest) → rest ≡ before space rest ++ space ∷ after space rest)
+        → b ∷ rest ≡ before space (b ∷ rest) ++ space ∷ after space (b ∷ rest)
     go true e h more = rw (e, eqb-true b space e)
     go false e h more = rw e (ap (λ (l : List ℕ). b ∷ l) (more (rw e at h)))
 
@@ -116,20 +116,20 @@ four-bytes (a ∷ b ∷ c ∷ d ∷ []) h = refl
 four-bytes (a ∷ b ∷ c ∷ d ∷ e ∷ rest) h = absurd (omega arith)
 
 abbrev letter : List ℕ → ℕ → ℕ
-letter line k = getD (before line) k 0
+letter line k = getD (before space line) k 0
 
 pub form-of : (line : List ℕ) → readable line ≡ true
-    → Form line (letter line 0) (letter line 1) (letter line 2) (letter line 3) (before (after line)) (after (after line))
+    → Form line (letter line 0) (letter line 1) (letter line 2) (letter line 3) (before space (after space line)) (after space (after space line))
 form-of line e =
     let r = told line e in
-    let l = letters-told (before line) (r .letters) in
-    let s = both-sides (after line) (r .sides) in
-    let inner = joined (after line) (side-told (after (after line)) (s .1) .some) in
-    let outer = joined line (omega (arith, before-short (after line), side-told (before (after line)) (s .0) .some)) in
+    let l = letters-told (before space line) (r .letters) in
+    let s = both-sides (after space line) (r .sides) in
+    let inner = joined (after space line) (side-told (after space (after space line)) (s .1) .some) in
+    let outer = joined line (omega (arith, before-short space (after space line), side-told (before space (after space line)) (s .0) .some)) in
     record {
       parts =
           outer
-          ∙ ap (λ (ls : List ℕ). ls ++ space ∷ after line) (four-bytes (before line) (l .size))
+          ∙ ap (λ (ls : List ℕ). ls ++ space ∷ after space line) (four-bytes (before space line) (l .size))
           ∙ ap (λ (rest : List ℕ). letter line 0 ∷ letter line 1 ∷ letter line 2 ∷ letter line 3 ∷ space ∷ rest) inner;
       letters = l .each;
       x-side = s .0;
@@ -148,8 +148,8 @@ pub not-readable : (line : List ℕ) → readable line ≡ false → answerTo li
 unfolding answerTo
 not-readable line e = rw e
 
-pub exactly-when : (line : List ℕ) → (answerTo line ≡ unreadable) ↔ ((a b c d : ℕ) (xs ys : List ℕ) → Form line a b c d xs ys → ⊥)
-exactly-when line = (
+pub readable-exactly-when : (line : List ℕ) → (answerTo line ≡ unreadable) ↔ ((a b c d : ℕ) (xs ys : List ℕ) → Form line a b c d xs ys → ⊥)
+readable-exactly-when line = (
   λ e a b c d xs ys f. never _ (sym (answered line a b c d xs ys f) ∙ e),
   λ no-form. go no-form (readable line) refl,
 )

@@ -1,5 +1,4 @@
--- What a caller of `answer_to` knows: the first `count` bytes are the answer.
--- Assumes nothing.
+-- What a caller of `reply` knows: the first `count` bytes are the answer.
 use mathlib.Core.Path.{_≡_, refl, ap, _∙_}
 use mathlib.Core.List.{List}
 use Prim.Native.Nat.{ℕ, _+_}

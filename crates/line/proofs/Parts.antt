@@ -8,25 +8,25 @@ use native.Mathlib.Omega.{arith}
 use lib.Dec.{eqb, leb}
 use lib.ListN.{length, getD}
 use borrow.Author.Tests.{eqb-true, leb-true}
-use Rattle.line.specs.Line.{before, after, isLetter, areLetters, isSide, areSides, mostBytes, readable}
+use Rattle.line.specs.Line.{space, before, after, isLetter, areLetters, isSide, areSides, mostBytes, readable}
 use Rattle.line.proofs.Words.{before-short}
 use Rattle.line.proofs.Sides.{both}
 
 pub record Readable (line : List ℕ) : Type 0 where
   pub few : length line ≤ mostBytes
-  pub letters : areLetters (before line) ≡ true
-  pub sides : areSides (after line) ≡ true
+  pub letters : areLetters (before space line) ≡ true
+  pub sides : areSides (after space line) ≡ true
 
 pub told : (line : List ℕ) → readable line ≡ true → Readable line
 unfolding readable
 told line e =
-    let q = both (leb (length line) mostBytes && areLetters (before line)) (areSides (after line)) e in
-    let p = both (leb (length line) mostBytes) (areLetters (before line)) (q .0) in
+    let q = both (leb (length line) mostBytes && areLetters (before space line)) (areSides (after space line)) e in
+    let p = both (leb (length line) mostBytes) (areLetters (before space line)) (q .0) in
     record { few = leb-true (length line) mostBytes (p .0); letters = p .1; sides = q .1 }
 
-pub both-sides : (bs : List ℕ) → areSides bs ≡ true → (isSide (before bs) ≡ true) × (isSide (after bs) ≡ true)
+pub both-sides : (bs : List ℕ) → areSides bs ≡ true → (isSide (before space bs) ≡ true) × (isSide (after space bs) ≡ true)
 unfolding areSides
-both-sides bs e = both (isSide (before bs)) (isSide (after bs)) e
+both-sides bs e = both (isSide (before space bs)) (isSide (after space bs)) e
 
 pub record Letters (bs : List ℕ) : Type 0 where
   pub size : length bs ≡ 4
@@ -40,4 +40,4 @@ letters-told bs e =
 
 -- a readable line has four letters
 pub four : (line : List ℕ) → Readable line → 4 ≤ length line
-four line r = omega (arith, letters-told (before line) (r .letters) .size, before-short line)
+four line r = omega (arith, letters-told (before space line) (r .letters) .size, before-short space line)

@@ -1,16 +1,16 @@
--- What a line asks is refused by 1 alone: its faces are never driven. And what stands past the longest line and one byte more changes no answer.
--- Assumes nothing.
+-- What a line asks is refused by 1 alone: its faces are never driven. And what a reader may leave unread changes no answer.
 use mathlib.Core.Path.{_≡_, refl, sym, ap, _∙_}
 use mathlib.Core.Bool.{Bool, true, false, cond}
-use mathlib.Core.List.{List}
+use mathlib.Core.List.{List, _∷_, _++_}
 use Prim.Native.Nat.{ℕ, suc, _≤_, _<_}
 use native.Mathlib.Decide.{decLe}
 use native.Mathlib.Omega.{arith}
 use lib.Dec.{eqb}
-use lib.Ieee.{Float}
 use lib.ListN.{length, take}
 use lib.Seq.{take-all, length-take-le}
 use borrow.Author.Tests.{lt-leb}
+use Rattle.lattice.specs.declared.Axis.{Axis}
+use Rattle.lattice.specs.declared.Side.{Side}
 use Rattle.settings.specs.declared.Face.{Face}
 use Rattle.settings.specs.declared.Face.the-variants.{Periodic, NoSlip, Symmetry}
 use Rattle.settings.specs.declared.Settings.{Settings}
@@ -20,7 +20,8 @@ use Rattle.lossless.specs.declared.Answer.{Answer}
 use Rattle.lossless.specs.declared.Answer.the-variants as The
 use Rattle.lossless.specs.Lossless.{lowest, lossyAt, losslessOf}
 use Rattle.line.specs.Text.{bytes, decimalIn}
-use Rattle.line.specs.Line.{mostBytes, readable, faceOfLetter, decimalOf, study, worded, answerTo, Form}
+use Rattle.line.specs.Line.{newline, lineOf, mostBytes, readable, faceOfLetter, decimalOf, study, worded, answerTo, replyTo, Form}
+use Rattle.line.proofs.Words.{before-take, before-ended}
 use Rattle.line.proofs.Forms.{answered, not-readable}
 
 -- ---- the faces of a line
@@ -35,9 +36,9 @@ three-kinds p x y z l = go (eqb l 80) (eqb l 78)
     go false true = y
     go false false = z
 
-no-bad-face : (n0 n1 : Float) (l : ℕ) → faceBad (faceOfLetter l) n0 n1 ≡ false
+no-bad-face : (a : Axis) (d : Side) (l : ℕ) → faceBad a d (faceOfLetter l) ≡ false
 unfolding faceBad
-no-bad-face n0 n1 = three-kinds (λ f. faceBad f n0 n1) refl refl refl
+no-bad-face a d = three-kinds (faceBad a d) refl refl refl
 
 module _ (a b c d nx ny : ℕ) where
   faces-good : facesBad (study a b c d nx ny) ≡ false
@@ -77,13 +78,13 @@ module _ (line : List ℕ) (a b c d : ℕ) (xs ys : List ℕ) (f : Form line a b
       go s false true = refl
       go s false false = refl
 
--- ---- a line that is cut after one byte more than the longest
+-- ---- what need not be read: all that stands after one byte more than the longest line, or after a newline
 
 too-long : (line : List ℕ) → mostBytes < length line → readable line ≡ false
 unfolding readable
 too-long line h = rw (lt-leb (length line) mostBytes h)
 
-pub cut : (line : List ℕ) → answerTo (take (suc mostBytes) line) ≡ answerTo line
+cut : (line : List ℕ) → answerTo (take (suc mostBytes) line) ≡ answerTo line
 cut line = go (decLe (length line) mostBytes)
   where
     start : List ℕ
@@ -94,3 +95,9 @@ cut line = go (decLe (length line) mostBytes)
     go (no more) =
         let size = length-take-le (suc mostBytes) line (omega arith) in
         not-readable start (too-long start (omega arith)) ∙ sym (not-readable line (too-long line (omega arith)))
+
+pub cut-input : (input : List ℕ) → replyTo (take (suc mostBytes) input) ≡ replyTo input
+cut-input input = ap answerTo (before-take newline (suc mostBytes) input) ∙ cut (lineOf input)
+
+pub ended-input : (input rest : List ℕ) → replyTo (input ++ newline ∷ rest) ≡ replyTo input
+ended-input input rest = ap answerTo (before-ended newline input rest)

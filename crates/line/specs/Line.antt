@@ -15,19 +15,27 @@ use Rattle.lossless.specs.declared.Answer.the-variants.{Refused, Lossless, Loss
 use Rattle.lossless.specs.Lossless.{faced, losslessOf}
 use Rattle.line.specs.Text.{bytes, decimal}
 
+-- what stands before the first mark, and what stands after it
+unfoldable pub before : ℕ → List ℕ → List ℕ
+before mark [] = []
+before mark (b ∷ rest) = cond (eqb b mark) [] (b ∷ before mark rest)
+
+unfoldable pub after : ℕ → List ℕ → List ℕ
+after mark [] = []
+after mark (b ∷ rest) = cond (eqb b mark) rest (after mark rest)
+
+-- ---- the line of an input, ended by a newline or the end of the input
+
+abbrev pub newline : ℕ
+newline = code "\n"
+
+abbrev pub lineOf : List ℕ → List ℕ
+lineOf input = before newline input
+
 -- ---- the form of a line: four letters and two sides, one space before each side
 
 abbrev pub space : ℕ
 space = code " "
-
--- what stands before the first space, and what stands after it
-unfoldable pub before : List ℕ → List ℕ
-before [] = []
-before (b ∷ rest) = cond (eqb b space) [] (b ∷ before rest)
-
-unfoldable pub after : List ℕ → List ℕ
-after [] = []
-after (b ∷ rest) = cond (eqb b space) rest (after rest)
 
 -- the letters are P, N and S
 abbrev pub isLetter : ℕ → Bool
@@ -53,13 +61,13 @@ unfoldable pub isSide : List ℕ → Bool
 isSide bs = leb 1 (length bs) && leb (length bs) mostDigits && areDigits bs
 
 unfoldable pub areSides : List ℕ → Bool
-areSides bs = isSide (before bs) && isSide (after bs)
+areSides bs = isSide (before space bs) && isSide (after space bs)
 
 abbrev pub mostBytes : ℕ
 mostBytes = 64
 
 unfoldable pub readable : List ℕ → Bool
-readable line = leb (length line) mostBytes && areLetters (before line) && areSides (after line)
+readable line = leb (length line) mostBytes && areLetters (before space line) && areSides (after space line)
 
 -- ---- what it asks
 
@@ -83,7 +91,7 @@ study a b c d nx ny = faced nx ny (faceOfLetter a) (faceOfLetter b) (faceOfLette
 unfoldable pub asked : List ℕ → Settings
 asked line =
     study (getD line 0 0) (getD line 1 0) (getD line 2 0) (getD line 3 0)
-    (decimalOf (before (after line))) (decimalOf (after (after line)))
+    (decimalOf (before space (after space line))) (decimalOf (after space (after space line)))
 
 -- ---- what is written for it
 
@@ -102,6 +110,10 @@ unreadable = bytes "unreadable\n"
 
 unfoldable pub answerTo : List ℕ → List ℕ
 answerTo line = cond (readable line) (worded (losslessOf (asked line))) unreadable
+
+-- what is written for an input
+abbrev pub replyTo : List ℕ → List ℕ
+replyTo input = answerTo (lineOf input)
 
 -- ---- the form as one equation: what answerTo says of it is shown in proofs/Forms.antt
 

@@ -6,7 +6,8 @@ ghost use mathlib.Core.Bool.{true};
 ghost use Prim.Native.Nat.{_+_, _≤_};
 ghost use lib.ListN.{length, take, drop};
 ghost use Rattle.line.specs.Line as Line;
-ghost use Rattle.line.specs.Line.{before, after, isLetter, areLetters, isDigit, areDigits, isSide, areSides, faceOfLetter, decimalOf, spaced, worded, answerTo};
+ghost use Rattle.line.specs.Line.{space, before, after, isLetter, areLetters, isDigit, areDigits, isSide, areSides};
+ghost use Rattle.line.specs.Line.{faceOfLetter, decimalOf, spaced, worded, answerTo, replyTo};
 ghost use Rattle.line.specs.Text.{made, putAt, textOf};
 ghost use Rattle.lossless.specs.declared.Answer.the-variants.{Refused, Lossy};
 
@@ -27,13 +28,13 @@ pub struct Text {
 
 // ---- which lines are readable
 
-// Where the first space stands, or the end of s.
-fn word(s: &[u8]) -> usize
-    ensures { λ r. ⌜ (r ≤ length (now (s .entry))) × (take r (now (s .entry)) ≡ before (now (s .entry))) ⌝ }
+// Where the first `mark` stands, or the end of s.
+fn until(s: &[u8], mark: u8) -> usize
+    ensures { λ r. ⌜ (r ≤ length (now (s .entry))) × (take r (now (s .entry)) ≡ before mark (now (s .entry))) ⌝ }
 {
     let mut k = 0;
     while k < s.len() {
-        if s[k] == b' ' {
+        if s[k] == mark {
             return k;
         }
         k += 1;
@@ -43,9 +44,9 @@ fn word(s: &[u8]) -> usize
 
 // Where what follows the first space starts, or the end of s.
 fn rest(s: &[u8]) -> usize
-    ensures { λ r. ⌜ (r ≤ length (now (s .entry))) × (drop r (now (s .entry)) ≡ after (now (s .entry))) ⌝ }
+    ensures { λ r. ⌜ (r ≤ length (now (s .entry))) × (drop r (now (s .entry)) ≡ after space (now (s .entry))) ⌝ }
 {
-    let n = word(s);
+    let n = until(s, b' ');
     if n < s.len() {
         return n + 1;
     }
@@ -95,7 +96,7 @@ fn is_side(s: &[u8]) -> bool
 fn are_sides(s: &[u8]) -> bool
     ensures { λ r. ⌜ r ≡ areSides (now (s .entry)) ⌝ }
 {
-    let n = word(s);
+    let n = until(s, b' ');
     let at = rest(s);
     is_side(&s[..n]) & is_side(&s[at..])
 }
@@ -103,7 +104,7 @@ fn are_sides(s: &[u8]) -> bool
 fn readable(line: &[u8]) -> bool
     ensures { λ r. ⌜ r ≡ Line.readable (now (line .entry)) ⌝ }
 {
-    let n = word(line);
+    let n = until(line, b' ');
     let at = rest(line);
     (line.len() <= MOST_BYTES) & are_letters(&line[..n]) & are_sides(&line[at..])
 }
@@ -143,15 +144,15 @@ fn number(digits: &[u8]) -> usize
 
 fn first_side(sides: &[u8]) -> usize
     requires { ⌜ areSides (now sides) ≡ true ⌝ }
-    ensures { λ r. ⌜ r ≡ decimalOf (before (now (sides .entry))) ⌝ }
+    ensures { λ r. ⌜ r ≡ decimalOf (before space (now (sides .entry))) ⌝ }
 {
-    let n = word(sides);
+    let n = until(sides, b' ');
     number(&sides[..n])
 }
 
 fn second_side(sides: &[u8]) -> usize
     requires { ⌜ areSides (now sides) ≡ true ⌝ }
-    ensures { λ r. ⌜ r ≡ decimalOf (after (now (sides .entry))) ⌝ }
+    ensures { λ r. ⌜ r ≡ decimalOf (after space (now (sides .entry))) ⌝ }
 {
     let at = rest(sides);
     number(&sides[at..])
@@ -252,8 +253,8 @@ fn put_answer_to(line: &[u8], out: &mut [u8]) -> usize
     put(b"unreadable\n", out, 0)
 }
 
-// What is written for a line, which is given without its newline.
-pub fn answer_to(line: &[u8]) -> Text
+// What is written for a line.
+fn answer_to(line: &[u8]) -> Text
     ensures { λ r. ⌜ r ≡ textOf (answerTo (now (line .entry))) ⌝ }
 {
     let mut bytes = [0u8; ROOM];
@@ -262,4 +263,12 @@ pub fn answer_to(line: &[u8]) -> Text
         bytes: bytes,
         count: count,
     }
+}
+
+// What is written for the bytes that were read: their line ends at the first newline, or with them.
+pub fn reply(read: &[u8]) -> Text
+    ensures { λ r. ⌜ r ≡ textOf (replyTo (now (read .entry))) ⌝ }
+{
+    let n = until(read, b'\n');
+    answer_to(&read[..n])
 }

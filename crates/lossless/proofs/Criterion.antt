@@ -6,12 +6,13 @@ use Prim.Native.Nat.{_≤_, _<_}
 use native.Mathlib.Omega.{arith}
 use lib.Dec.{leb}
 use borrow.Author.Tests.{leb-true, leb-false, not-true}
-use Rattle.lattice.specs.Lattice.{Axis, X, Y}
+use Rattle.lattice.specs.declared.Axis.{Axis}
+use Rattle.lattice.specs.declared.Axis.the-variants.{X, Y}
 use Rattle.settings.specs.declared.Settings.{Settings}
-use Rattle.settings.specs.Tests.{isPeriodic, isSymmetry, unpaired, lossy}
+use Rattle.settings.specs.Tests.{faceOf, isPeriodic, isSymmetry, unpaired, lossy}
 use Rattle.settings.proofs.Laws.{or-left, or-right}
-use Rattle.streaming.specs.Steps.{Step, stay, up, down, part, against, moved}
-use Rattle.streaming.specs.Source.{Entry, On, faceOf, enters, leaves, source, target}
+use Rattle.streaming.specs.Travel.{Step, stay, up, down, part, against, moved}
+use Rattle.streaming.specs.Source.{Entry, On, enters, leaves, source, target}
 use Rattle.streaming.proofs.Source.{moved-in}
 use Rattle.lossless.specs.Lossless.{strays}
 use Rattle.lossless.proofs.Ends.{strayed, and-split, unless, mirrors, unmet, passes}

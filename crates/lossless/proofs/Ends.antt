@@ -8,11 +8,14 @@ use native.Mathlib.Omega.{arith}
 use lib.Dec.{eqb}
 use borrow.Author.Tests.{eqb-true, eqb-false, eq-eqb, ne-eqb, not-true}
 use Rattle.grid.proofs.Radix.{lt-or-ge}
+use Rattle.lattice.specs.declared.Side.{Side}
+use Rattle.lattice.specs.declared.Side.the-variants.{Min, Max}
 use Rattle.settings.specs.declared.Face.{Face}
 use Rattle.settings.specs.declared.Face.the-variants.{Periodic, NoSlip, MovingWall, Symmetry, Velocity, Pressure}
 use Rattle.settings.specs.Tests.{isPeriodic, isSymmetry}
-use Rattle.streaming.specs.Steps.{Step, stay, up, down, against, turn, moved}
-use Rattle.streaming.specs.Faces.{Side, min, max, onFace, incoming}
+use Rattle.streaming.specs.Travel.{Step, stay, up, down, against, turn, moved}
+use Rattle.streaming.specs.Faces.{onFace}
+use Rattle.streaming.proofs.Dirs.{entering}
 use Rattle.streaming.proofs.Ring.{mod-once, before-seam}
 use Rattle.lossless.specs.Lossless.{strays}
 
@@ -41,13 +44,13 @@ same-test a b c d f g = go (eqb a b) refl
     go true h = h ∙ sym (eq-eqb c d (f (eqb-true a b h)))
     go false h = h ∙ sym (ne-eqb c d (λ q. eqb-false a b h (g q)))
 
-wraps-up : (n k : ℕ) → k < n → onFace min n (moved up n k) ≡ onFace max n k
+wraps-up : (n k : ℕ) → k < n → onFace Min n (moved up n k) ≡ onFace Max n k
 wraps-up n k h =
     same-test (moved up n k) 0 (k + 1) n
     (λ z. ⊎-elim (λ l. absurd (omega (arith, before-seam n 1 k l))) (λ g. omega arith) (lt-or-ge (k + 1) n))
     (λ z. omega (arith, turn-over n 1 k (omega arith) (omega arith)))
 
-wraps-down : (n k : ℕ) → k < n → onFace max n (moved down n k) ≡ onFace min n k
+wraps-down : (n k : ℕ) → k < n → onFace Max n (moved down n k) ≡ onFace Min n k
 wraps-down n k h =
     same-test (moved down n k + 1) n k 0
     (λ z. ⊎-elim (λ l. omega arith) (λ g. absurd (omega (arith, turn-over n (n - 1) k g (omega arith)))) (lt-or-ge (k + (n - 1)) n))
@@ -89,39 +92,39 @@ module _ (a b : Face) where
 
 -- the face that a step into the coordinate k of a side of n comes in through, and Periodic where it comes in through none
 abbrev pub through : (Side → Face) → ℕ → ℕ → Step → Face
-through f n k e = cond (incoming min e && onFace min n k) (f min) (cond (incoming max e && onFace max n k) (f max) Periodic)
+through f n k e = cond (entering Min e && onFace Min n k) (f Min) (cond (entering Max e && onFace Max n k) (f Max) Periodic)
 
 -- the side that a step goes out through
 abbrev pub ahead : Step → Side
-ahead stay = min
-ahead up = max
-ahead down = min
+ahead stay = Min
+ahead up = Max
+ahead down = Min
 
 -- what goes out ahead comes in through a face that is not periodic
 abbrev pub strayed : (Side → Face) → Step → Bool
 strayed f stay = false
-strayed f up = strays (f min) (f max)
-strayed f down = strays (f max) (f min)
+strayed f up = strays (f Min) (f Max)
+strayed f down = strays (f Max) (f Min)
 
 module _ (f : Side → Face) (n k : ℕ) where
   -- a Symmetry face that is met is there
-  pub mirrors : (e : Step) → isSymmetry (through f n k e) ≡ true → (isSymmetry (f min) || isSymmetry (f max)) ≡ true
+  pub mirrors : (e : Step) → isSymmetry (through f n k e) ≡ true → (isSymmetry (f Min) || isSymmetry (f Max)) ≡ true
   mirrors stay p = absurd (false≢true p)
-  mirrors up p = rw (shows (onFace min n k) (f min) p)
-  mirrors down p = rw (shows (onFace max n k) (f max) p) (or-true (isSymmetry (f min)))
+  mirrors up p = rw (shows (onFace Min n k) (f Min) p)
+  mirrors down p = rw (shows (onFace Max n k) (f Max) p) (or-true (isSymmetry (f Min)))
 
   -- across a periodic axis none is met
-  pub unmet : (e : Step) → isPeriodic (f min) ≡ true → isPeriodic (f max) ≡ true → isPeriodic (through f n k e) ≡ true
+  pub unmet : (e : Step) → isPeriodic (f Min) ≡ true → isPeriodic (f Max) ≡ true → isPeriodic (through f n k e) ≡ true
   unmet stay p q = refl
-  unmet up p q = opens (onFace min n k) (f min) p
-  unmet down p q = opens (onFace max n k) (f max) q
+  unmet up p q = opens (onFace Min n k) (f Min) p
+  unmet down p q = opens (onFace Max n k) (f Max) q
 
 module _ (f : Side → Face) (n k : ℕ) (h : k < n) where
   -- what does not stray and goes out through no face comes in through none
   pub passes : (e : Step) → strayed f e ≡ false → isPeriodic (through f n k (against e)) ≡ true → isPeriodic (through f n (moved e n k) e) ≡ true
   passes stay s p = refl
-  passes up s p = rw (wraps-up n k h) (pass (f min) (f max) (onFace max n k) s p)
-  passes down s p = rw (wraps-down n k h) (pass (f max) (f min) (onFace min n k) s p)
+  passes up s p = rw (wraps-up n k h) (pass (f Min) (f Max) (onFace Max n k) s p)
+  passes down s p = rw (wraps-down n k h) (pass (f Max) (f Min) (onFace Min n k) s p)
 
   -- nor does what does not come to the end
   pub passes-up : k + 1 < n → isPeriodic (through f n (moved up n k) up) ≡ true
@@ -138,5 +141,5 @@ module _ (f : Side → Face) (n k : ℕ) (h : k < n) where
   pub turned-back : (e : Step) → strayed f (against e) ≡ false → isSymmetry (through f n k (against e)) ≡ true
       → isPeriodic (through f n (moved e n k) e) ≡ false
   turned-back stay s p = absurd (false≢true p)
-  turned-back up s p = rw (wraps-up n k h) (turn-back (f min) (f max) (onFace max n k) s p)
-  turned-back down s p = rw (wraps-down n k h) (turn-back (f max) (f min) (onFace min n k) s p)
+  turned-back up s p = rw (wraps-up n k h) (turn-back (f Min) (f Max) (onFace Max n k) s p)
+  turned-back down s p = rw (wraps-down n k h) (turn-back (f Max) (f Min) (onFace Min n k) s p)

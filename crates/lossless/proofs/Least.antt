@@ -8,14 +8,17 @@ use native.Mathlib.Nat.{mul-le-mul-right}
 use native.Mathlib.Omega.{arith}
 use borrow.Author.Tests.{eq-eqb, ne-eqb}
 use Rattle.number.proofs.Nine.{for-nine}
-use Rattle.lattice.specs.Lattice.{Axis, X, Y, directions}
+use Rattle.lattice.specs.declared.Axis.{Axis}
+use Rattle.lattice.specs.declared.Axis.the-variants.{X, Y}
+use Rattle.lattice.specs.Lattice.{directions}
 use Rattle.grid.specs.Grid.{Grid}
 use Rattle.grid.proofs.Radix.{lt-or-ge, within}
 use Rattle.settings.specs.declared.Settings.{Settings}
-use Rattle.settings.specs.Tests.{isPeriodic, isSymmetry, lossy}
-use Rattle.streaming.specs.Steps.{Step, stay, up, down, part, against}
-use Rattle.streaming.specs.Faces.{max, onFace}
-use Rattle.streaming.specs.Source.{Entry, entry, On, indexOf, faceOf, enters, leaves}
+use Rattle.settings.specs.Tests.{faceOf, isPeriodic, isSymmetry, lossy}
+use Rattle.streaming.specs.Travel.{Step, stay, up, down, part, against}
+use Rattle.lattice.specs.declared.Side.the-variants.{Max}
+use Rattle.streaming.specs.Faces.{onFace}
+use Rattle.streaming.specs.Source.{Entry, entry, On, indexOf, enters, leaves}
 use Rattle.lossless.specs.Lossless.{strays, lowest}
 use Rattle.lossless.proofs.Ends.{strayed, hides, passes-up}
 use Rattle.lossless.proofs.Turns.{met, enters-by, leaves-by, arrives-by}
@@ -201,7 +204,7 @@ module _ (s : Settings) where
               let o = entry (p .x) (p .y) 5 in
               let w = spot (p .x) (p .y) 5 (q .x-in) (q .y-in) (omega arith) in
               subst (λ (j : ℕ). Clear s (entry (p .x) (p .y) j)) is
-              (unmirrored o w (ap isSymmetry (leaves-by s o w X) ∙ hides (onFace max (s .nx) (p .x)) (s .«x_max») h))
+              (unmirrored o w (ap isSymmetry (leaves-by s o w X) ∙ hides (onFace Max (s .nx) (p .x)) (s .«x_max») h))
 
     -- ---- THE LOWEST LOST ENTRY, by the tests in their order
 

@@ -5,12 +5,13 @@ use mathlib.Core.Bool.{Bool, true, false, true≢false, false≢true}
 use Prim.Native.Nat.{_+_, _≤_, _<_}
 use native.Mathlib.Omega.{arith}
 use borrow.Author.Tests.{eq-eqb, ne-eqb}
-use Rattle.lattice.specs.Lattice.{Axis, X, Y}
+use Rattle.lattice.specs.declared.Axis.{Axis}
+use Rattle.lattice.specs.declared.Axis.the-variants.{X, Y}
 use Rattle.settings.specs.declared.Settings.{Settings}
-use Rattle.settings.specs.Tests.{isPeriodic, isSymmetry}
-use Rattle.streaming.specs.Steps.{stay, up, part, against}
+use Rattle.settings.specs.Tests.{faceOf, isPeriodic, isSymmetry}
+use Rattle.streaming.specs.Travel.{stay, up, part, against}
 use Rattle.streaming.specs.Faces.{onFace, sizeOf, coordOf}
-use Rattle.streaming.specs.Source.{Entry, On, faceOf, enters, leaves, goes, source}
+use Rattle.streaming.specs.Source.{Entry, On, enters, leaves, goes, source}
 use Rattle.lossless.proofs.Ends.{ahead, strayed, passes, goes-astray, turned-back}
 use Rattle.lossless.proofs.Turns.{bounced, met, enters-by, leaves-by, out-again, y-mirrored, arrives-by, goes-came}
 use Rattle.lossless.proofs.Inverse.{by-y, by-x, by-none, Clear}

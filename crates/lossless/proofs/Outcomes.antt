@@ -19,14 +19,14 @@ use Rattle.streaming.specs.Turned.{carried}
 use Rattle.lossless.specs.Lossless.{reverseBuffer, lowest, lossyAt, numberOf, losslessOf, Says, reversedOf}
 use Rattle.lossless.specs.declared.Answer.the-variants as The
 use Rattle.lossless.proofs.Backward.{reverse-gives, reverse-only, reverse-is}
-use Rattle.lossless.proofs.Whole.{exactly-when, is-lowest}
+use Rattle.lossless.proofs.Whole.{lossless-exactly-when, is-lowest}
 
 -- ---- the question
 
 module _ (s : Settings) where
   settled : Grid (s .nx) (s .ny) → driven s ≡ false → (b : Bool) → lossy s ≡ b → Says s (cond b (lossyAt (lowest s)) The.Lossless)
   settled g calm true l = is-lowest s calm g l
-  settled g calm false l = exactly-when s calm g .1 l
+  settled g calm false l = lossless-exactly-when s calm g .1 l
 
   -- not refused, the answer says what is so
   pub says : refusal (lossless s) ≡ 0 → Says s (losslessOf s)

@@ -3,16 +3,19 @@
 use mathlib.Core.Path.{_≡_, refl, sym, ap, _∙_}
 use mathlib.Core.Bool.{Bool, true, false, cond}
 use Prim.Native.Nat.{ℕ, _<_}
-use Rattle.lattice.specs.Lattice.{Axis, X, Y, OPP}
+use Rattle.lattice.specs.declared.Axis.{Axis}
+use Rattle.lattice.specs.declared.Axis.the-variants.{X, Y}
+use Rattle.lattice.specs.declared.Side.the-variants.{Min, Max}
+use Rattle.lattice.specs.Lattice.{OPP}
 use Rattle.lattice.specs.Lookup.{mirror}
 use Rattle.lattice.proofs.Tables.{opposite-twice, opposite-small, mirror-small, mirror-twice}
 use Rattle.settings.specs.declared.Face.{Face}
 use Rattle.settings.specs.declared.Settings.{Settings}
-use Rattle.settings.specs.Tests.{isSymmetry}
-use Rattle.streaming.specs.Steps.{Step, stay, up, down, part, against, moved}
+use Rattle.settings.specs.Tests.{faceOf, isSymmetry}
+use Rattle.streaming.specs.Travel.{Step, stay, up, down, part, against, moved}
 use Rattle.streaming.specs.Faces.{sizeOf, coordOf}
-use Rattle.streaming.specs.Source.{Entry, entry, On, opposite, faceOf, enters, leaves, reflect, came, goes}
-use Rattle.streaming.proofs.Dirs.{against-twice, opposite-part, mirror-part, mirror-other}
+use Rattle.streaming.specs.Source.{Entry, entry, On, opposite, enters, leaves, reflect, came, goes}
+use Rattle.streaming.proofs.Dirs.{against-twice, opposite-part, mirror-part, mirror-other, incoming-by-step}
 use Rattle.streaming.proofs.Ring.{there-and-back}
 use Rattle.lossless.proofs.Ends.{through}
 
@@ -49,7 +52,7 @@ module _ (s : Settings) where
 
   pub enters-by : (a : Axis) (e : Entry) → enters s a e ≡ met a e (part a (e .i))
   unfolding enters
-  enters-by a e = refl
+  enters-by a e = rw (incoming-by-step a Min (e .i), incoming-by-step a Max (e .i))
 
   module _ (e : Entry) (on : On (s .nx) (s .ny) e) where
     pub leaves-by : (a : Axis) → leaves s a e ≡ met a e (against (part a (e .i)))
@@ -82,9 +85,9 @@ module _ (s : Settings) where
     -- carried on and back
     pub arrives-by : (a : Axis) → let n = sizeOf a (s .nx) (s .ny) in
         enters s a (goes s e) ≡ through (faceOf s a) n (moved (part a (e .i)) n (coordOf a (e .x) (e .y))) (part a (e .i))
-    unfolding enters goes
-    arrives-by X = refl
-    arrives-by Y = refl
+    unfolding goes
+    arrives-by X = enters-by X (goes s e)
+    arrives-by Y = enters-by Y (goes s e)
 
     pub came-goes : came s (goes s e) ≡ e
     unfolding came goes

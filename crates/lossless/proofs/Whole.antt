@@ -147,8 +147,8 @@ module _ (s : Settings) (calm : driven s ≡ false) where
 
   -- ---- LOSSLESS EXACTLY WHEN
 
-  pub exactly-when : Grid (s .nx) (s .ny) → Lossless s ↔ (lossy s ≡ false)
-  exactly-when g = (λ w. from w (lossy s) refl, to)
+  pub lossless-exactly-when : Grid (s .nx) (s .ny) → Lossless s ↔ (lossy s ≡ false)
+  lossless-exactly-when g = (λ w. from w (lossy s) refl, to)
     where
       -- each buffer is the reverse of what it is streamed to
       to : lossy s ≡ false → Lossless s

@@ -5,7 +5,7 @@ ghost use mathlib.Core.Path.{_≡_};
 ghost use Prim.Native.Nat.{_<_};
 ghost use Rattle.lossless.specs.Lossless as Lossless;
 ghost use Rattle.lossless.specs.Lossless.{reply, lossyAt, losslessOf, reversedOf};
-ghost use Rattle.settings.specs.Outcome.{Written};
+ghost use Rattle.settings.specs.Outcome.{outcome};
 
 // What the lossless question answers. A lossy answer names the lowest entry that is lost, by x, y and direction.
 pub enum Answer {
@@ -64,7 +64,7 @@ pub fn lossless(s: Settings) -> Answer
 
 // Leaves in post the one post-collision buffer from which streaming with these faces gives f.
 pub fn reverse(s: Settings, f: &[u64], post: &mut [u64]) -> u32
-    ensures { λ r. ⌜ _≡_ {A = Written} (record { number = r; buffer = now (post .exit) }) (reversedOf s (now (f .entry)) (now (post .entry))) ⌝ }
+    ensures { λ r. ⌜ outcome r (now (post .exit)) ≡ reversedOf s (now (f .entry)) (now (post .entry)) ⌝ }
 {
     let number = settings::reverse_refusal(s, f.len(), post.len());
     if number != 0 {

@@ -4,7 +4,7 @@ fn ask(line: &[u8]) {
     io::write_all(1, b"|");
     io::write_all(1, line);
     io::write_all(1, b"| ");
-    let answer = line::answer_to(line);
+    let answer = line::reply(line);
     let text = answer.bytes;
     let count = answer.count;
     io::write_all(1, &text[..count]);

@@ -10,7 +10,7 @@ use Rattle.lattice.specs.Lookup.{isRow, lookup, mirror}
 use Rattle.cell.specs.Cell.{densityOf, momentumX, momentumY, readMoments, inverseOf, noSource, bgkRates, trtRates, bgkAt, bgk, trtRelaxedAt, trtRelaxed, trtSourcedAt, trtSourced, trt}
 use Rattle.settings.specs.Tests.{sidesBad, faceBad, facesBad, driven, unpaired, lossy}
 use Rattle.settings.specs.Outcome.{answer}
-use Rattle.streaming.specs.Steps.{turn, streamed}
+use Rattle.streaming.specs.Travel.{turn, streamed}
 use Rattle.streaming.specs.Faces.{takes, face}
 use Rattle.streaming.specs.Streaming.{next}
 use Rattle.lossless.specs.Lossless.{lowest, losslessOf}

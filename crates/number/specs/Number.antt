@@ -1,8 +1,7 @@
 -- Numbers of 64 bits: the f64 operations, each rounded once to nearest even, and the patterns that stand for numbers in a lent buffer.
 -- Assumes nothing.
 use mathlib.Core.Bool.{Bool, true, false, cond, _||_}
-use Prim.Native.Nat.{ℕ, _%_}
-use lib.Dec.{ltb}
+use Prim.Native.Nat.{ℕ}
 use lib.Ieee.{Float, nan, inf, fin, binary64, ofBits, toBits, isNan, add, sub, mul, div, lt, ne}
 
 infixl 75 _⊕_ _⊖_
@@ -94,7 +93,3 @@ magnitudeOf (fin s m e) = fin false m e
 -- the larger of two; where either is a NaN, the NaN
 unfoldable pub largerOf : Float → Float → Float
 largerOf a b = cond (isNan b) b (cond (lt a b) b a)
-
--- a pattern whose magnitude is below 2: neither a NaN's nor an infinity's
-abbrev pub plainOf : ℕ → Bool
-plainOf b = ltb (b % 0x8000_0000_0000_0000) 0x4000_0000_0000_0000

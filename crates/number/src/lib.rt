@@ -2,7 +2,8 @@
 ghost use mathlib.Core.Path.{_≡_};
 ghost use mathlib.Core.Bool.{true};
 ghost use lib.Ieee.{binary64, ofBits, toBits};
-ghost use Rattle.number.specs.Number.{plainOf, notFinite, magnitudeOf, largerOf};
+ghost use Rattle.number.specs.Number.{notFinite, magnitudeOf, largerOf};
+ghost use Rattle.number.specs.Joined.{finiteOf, raisedOf, clearOf};
 
 // The number that a pattern stands for. Every NaN's pattern is the one NaN.
 pub fn value(b: u64) -> f64
@@ -15,19 +16,27 @@ pub fn value(b: u64) -> f64
     }
 }
 
-// Whether a pattern's magnitude is below 2, so that it is no NaN's. The bits of many patterns joined are plain only where each pattern is.
-pub fn plain(b: u64) -> bool
-    ensures { λ r. ⌜ r ≡ plainOf b ⌝ }
-{
-    b % 0x8000_0000_0000_0000 < 0x4000_0000_0000_0000
-}
-
-// The number that a plain pattern stands for, with no test for a NaN.
-pub fn plain_value(b: u64) -> f64
-    requires { ⌜ plainOf b ≡ true ⌝ }
+// The number that a finite number's pattern stands for, with no test for a NaN.
+pub fn finite_value(b: u64) -> f64
+    requires { ⌜ finiteOf b ≡ true ⌝ }
     ensures { λ r. ⌜ r ≡ ofBits binary64 b ⌝ }
 {
     f64::from_bits(b)
+}
+
+// A pattern with its sign cleared and 2^52 added. The top bit is then set exactly where the pattern is an infinity's or a NaN's, and
+// many raised patterns joined have it clear exactly where every one is finite: a loop over them needs no branch.
+pub fn raised(b: u64) -> u64
+    ensures { λ r. ⌜ r ≡ raisedOf b ⌝ }
+{
+    b % 0x8000_0000_0000_0000 + 0x0010_0000_0000_0000
+}
+
+// Whether the top bit is clear.
+pub fn clear(bits: u64) -> bool
+    ensures { λ r. ⌜ r ≡ clearOf bits ⌝ }
+{
+    bits < 0x8000_0000_0000_0000
 }
 
 // The pattern of a number. A NaN's is always the same, whichever operation made it.

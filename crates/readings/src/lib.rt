@@ -8,7 +8,7 @@ ghost use Rattle.grid.specs.Grid.{Grid, Holds, cellOf, bufferOf};
 ghost use Rattle.cell.specs.Cell.{densityOf, readMoments};
 ghost use Rattle.settings.specs.Refusals as Call;
 ghost use Rattle.settings.specs.Refusals.{refusal};
-ghost use Rattle.settings.specs.Outcome.{Written};
+ghost use Rattle.settings.specs.Outcome.{outcome};
 ghost use Rattle.readings.specs.Readings.{initialMoments, initialField, initialized, densityRead, velocityRead, velocityBuffer, velocityFieldRead, massOf, totalMassRead, energyOf, kineticEnergyRead, PartOf, planeStart, planeLength};
 
 // A number of the rules, and the value that is read: 0.0 where the call is refused.
@@ -54,7 +54,7 @@ fn initialize_cells(s: Settings, table: &[u64], f: &mut [u64])
 
 // Makes every population the equilibrium of what the table has of its cell.
 pub fn initialize(s: Settings, table: &[u64], f: &mut [u64]) -> u32
-    ensures { λ r. ⌜ _≡_ {A = Written} (record { number = r; buffer = now (f .exit) }) (initialized s (now (table .entry)) (now (f .entry))) ⌝ }
+    ensures { λ r. ⌜ outcome r (now (f .exit)) ≡ initialized s (now (table .entry)) (now (f .entry)) ⌝ }
 {
     let number = settings::initialize_refusal(s, table.len(), f.len());
     if number != 0 {
@@ -134,7 +134,7 @@ pub fn velocity_cells(s: Settings, f: &[u64], u: &mut [u64])
 
 // Fills u with the velocity of every cell, two entries a cell.
 pub fn velocity_field(s: Settings, f: &[u64], u: &mut [u64]) -> u32
-    ensures { λ r. ⌜ _≡_ {A = Written} (record { number = r; buffer = now (u .exit) }) (velocityFieldRead s (now (f .entry)) (now (u .entry))) ⌝ }
+    ensures { λ r. ⌜ outcome r (now (u .exit)) ≡ velocityFieldRead s (now (f .entry)) (now (u .entry)) ⌝ }
 {
     let number = settings::velocity_field_refusal(s, f.len(), u.len());
     if number != 0 {

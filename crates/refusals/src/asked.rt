@@ -18,41 +18,41 @@ use settings::Settings;
 // ---- questions on 3 by 2, each buffer of the right length
 
 fn step(case: &[u8], s: Settings) {
-    show::number(b"step", case, settings::step_refusal(s, 54, 54));
+    show::number(b"step_refusal", case, settings::step_refusal(s, 54, 54));
 }
 
 fn velocity(case: &[u8], s: Settings) {
-    show::number(b"velocity", case, settings::velocity_refusal(s, 54, 0, 0));
+    show::number(b"velocity_refusal", case, settings::velocity_refusal(s, 54, 0, 0));
 }
 
 fn density(case: &[u8], s: Settings, x: usize, y: usize) {
-    show::number(b"density", case, settings::density_refusal(s, 54, x, y));
+    show::number(b"density_refusal", case, settings::density_refusal(s, 54, x, y));
 }
 
 fn plane(case: &[u8], i: usize) {
-    show::number(b"plane", case, settings::plane_refusal(sized(3, 2), 54, i));
+    show::number(b"plane_refusal", case, settings::plane_refusal(sized(3, 2), 54, i));
 }
 
 fn stream(case: &[u8], s: Settings) {
     show::number(
-        b"stream_with_faces",
+        b"stream_with_faces_refusal",
         case,
         settings::stream_with_faces_refusal(s, 54, 54),
     );
 }
 
 fn lossless(case: &[u8], s: Settings) {
-    show::number(b"lossless", case, settings::lossless_refusal(s));
+    show::number(b"lossless_refusal", case, settings::lossless_refusal(s));
 }
 
 fn reverse(case: &[u8], s: Settings) {
-    show::number(b"reverse", case, settings::reverse_refusal(s, 54, 54));
+    show::number(b"reverse_refusal", case, settings::reverse_refusal(s, 54, 54));
 }
 
 fn steady(case: &[u8], tolerance: f64, steps: u64) {
     let s = sized(3, 2);
     let number = settings::run_to_steady_state_refusal(s, tolerance, steps, 54, 54, 12);
-    show::number(b"run_to_steady_state", case, number);
+    show::number(b"run_to_steady_state_refusal", case, number);
 }
 
 // ---- bounds
@@ -69,17 +69,17 @@ fn sides() {
 fn lengths() {
     let s = sized(3, 2);
     show::number(
-        b"step",
+        b"step_refusal",
         b"lengths 54 and 54",
         settings::step_refusal(s, 54, 54),
     );
     show::number(
-        b"step",
+        b"step_refusal",
         b"lengths 53 and 54",
         settings::step_refusal(s, 53, 54),
     );
     show::number(
-        b"step",
+        b"step_refusal",
         b"lengths 54 and 55",
         settings::step_refusal(s, 54, 55),
     );
@@ -160,7 +160,7 @@ fn losses() {
 
 fn settling(case: &[u8], s: Settings, tolerance: f64, steps: u64, u: usize) {
     let number = settings::run_to_steady_state_refusal(s, tolerance, steps, 54, 54, u);
-    show::number(b"run_to_steady_state", case, number);
+    show::number(b"run_to_steady_state_refusal", case, number);
 }
 
 fn steady_order() {
@@ -182,7 +182,7 @@ fn steady_order() {
 }
 
 fn reversing(case: &[u8], s: Settings, post: usize) {
-    show::number(b"reverse", case, settings::reverse_refusal(s, 54, post));
+    show::number(b"reverse_refusal", case, settings::reverse_refusal(s, 54, post));
 }
 
 fn reverse_order() {

@@ -69,31 +69,31 @@ direction-ok i e = leb-false 9 i e
 
 -- ---- the tests of a call
 
-abbrev pub Told : Test → Type 0
-Told (sides s) = Grid (s .nx) (s .ny)
-Told (lengths s per len) = Sized s per len
-Told (rates s) = ratesBad s ≡ false
-Told (force s) = forceBad s ≡ false
-Told (faces s) = facesBad s ≡ false
-Told (place s x y) = Inside s x y
-Told (direction i) = i < 9
-Told (kinds s) = driven s ≡ false
-Told (losses s) = lossy s ≡ false
-Told (tolerance t) = isNan t ≡ false
-Told (steps n) = n ≤ mostSteps
+abbrev pub Tells : Test → Type 0
+Tells (sides s) = Grid (s .nx) (s .ny)
+Tells (lengths s per len) = Sized s per len
+Tells (rates s) = ratesBad s ≡ false
+Tells (force s) = forceBad s ≡ false
+Tells (faces s) = facesBad s ≡ false
+Tells (place s x y) = Inside s x y
+Tells (direction i) = i < 9
+Tells (kinds s) = driven s ≡ false
+Tells (losses s) = lossy s ≡ false
+Tells (tolerance t) = isNan t ≡ false
+Tells (steps n) = n ≤ mostSteps
 
-told : (t : Test) → row t .bad ≡ false → Told t
-told (sides s) e = sides-ok (s .nx) (s .ny) e
-told (lengths s per len) e = record { size = length-ok (s .nx) (s .ny) per len e }
-told (rates s) e = e
-told (force s) e = e
-told (faces s) e = e
-told (place s x y) e = place-ok s x y e
-told (direction i) e = direction-ok i e
-told (kinds s) e = e
-told (losses s) e = e
-told (tolerance t) e = e
-told (steps n) e = steps-ok n e
+tells : (t : Test) → row t .bad ≡ false → Tells t
+tells (sides s) e = sides-ok (s .nx) (s .ny) e
+tells (lengths s per len) e = record { size = length-ok (s .nx) (s .ny) per len e }
+tells (rates s) e = e
+tells (force s) e = e
+tells (faces s) e = e
+tells (place s x y) e = place-ok s x y e
+tells (direction i) e = direction-ok i e
+tells (kinds s) e = e
+tells (losses s) e = e
+tells (tolerance t) e = e
+tells (steps n) e = steps-ok n e
 
 -- ---- what a call that is not refused tells
 
@@ -119,12 +119,12 @@ positive (steps n) = tt
 -- each test of the list tells its own
 abbrev pub All : List Test → Type 0
 All [] = Unit {0}
-All (t ∷ rest) = Told t × All rest
+All (t ∷ rest) = Tells t × All rest
 
 passed : (ts : List Test) → first ts 0 ≡ 0 → All ts
 passed [] e = tt
 passed (t ∷ rest) e =
-    let q = none (row t .bad) (row t .number) (first rest 0) (positive t) e in (told t (q .0), passed rest (q .1))
+    let q = none (row t .bad) (row t .number) (first rest 0) (positive t) e in (tells t (q .0), passed rest (q .1))
 
 pub known : (c : Call) → refusal c ≡ 0 → All (tests c)
 known c e = passed (tests c) e

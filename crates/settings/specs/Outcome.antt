@@ -14,7 +14,9 @@ pub record Written : Type 0 where
   pub number : ℕ
   pub buffer : List ℕ
 
+abbrev pub outcome : ℕ → List ℕ → Written
+outcome number buffer = record { number = number; buffer = buffer }
+
 -- a refused operation leaves the buffer as it was before
 abbrev pub written : ℕ → List ℕ → List ℕ → Written
-written number before after =
-    answer number (record { number = 0; buffer = after }) (record { number = number; buffer = before })
+written number before after = answer number (outcome 0 after) (outcome number before)

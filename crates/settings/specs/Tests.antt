@@ -4,8 +4,13 @@
 use mathlib.Core.Bool.{Bool, true, false, not, xor, _&&_, _||_}
 use Prim.Native.Nat.{ℕ, _*_}
 use lib.Dec.{eqb, leb, ltb}
-use lib.Ieee.{Float, isNan, neg, eq, lt}
+use lib.Ieee.{Float, isNan, eq, lt}
 use Rattle.number.specs.Number.{_⊕_, _⊖_, _⊗_, c0, c½, c1, c2, c3, notFinite}
+use Rattle.lattice.specs.declared.Axis.{Axis}
+use Rattle.lattice.specs.declared.Axis.the-variants.{X, Y}
+use Rattle.lattice.specs.declared.Side.{Side}
+use Rattle.lattice.specs.declared.Side.the-variants.{Min, Max}
+use Rattle.lattice.specs.Sides.{normal, along}
 use Rattle.cell.specs.declared.Collision.{Collision}
 use Rattle.cell.specs.declared.Collision.the-variants.{Bgk, Mrt, Trt}
 use Rattle.grid.specs.Grid.{mostSide, mostCells}
@@ -49,23 +54,27 @@ forceBad s = notFinite (s .fx) || notFinite (s .fy)
 
 -- ---- 5: a face number is not finite; a Pressure density is not above 0; a Velocity face has 1 - un equal to 0
 
--- the speed along the inward normal (n0, n1)
-abbrev pub unOf : Float → Float → Float → Float → Float
-unOf u0 u1 n0 n1 = u0 ⊗ n0 ⊕ u1 ⊗ n1
+-- the face of an axis and side
+abbrev pub faceOf : Settings → Axis → Side → Face
+faceOf s X Min = s .«x_min»
+faceOf s X Max = s .«x_max»
+faceOf s Y Min = s .«y_min»
+faceOf s Y Max = s .«y_max»
 
-unfoldable pub faceBad : Face → Float → Float → Bool
-faceBad Periodic n0 n1 = false
-faceBad NoSlip n0 n1 = false
-faceBad (MovingWall u0 u1) n0 n1 = notFinite u0 || notFinite u1
-faceBad Symmetry n0 n1 = false
-faceBad (Velocity u0 u1) n0 n1 = notFinite u0 || notFinite u1 || eq (c1 ⊖ unOf u0 u1 n0 n1) c0
-faceBad (Pressure density) n0 n1 = notFinite density || not (lt c0 density)
+-- a face's own numbers, where un is the speed along the inward normal
+unfoldable pub faceBad : Axis → Side → Face → Bool
+faceBad a d Periodic = false
+faceBad a d NoSlip = false
+faceBad a d (MovingWall u0 u1) = notFinite u0 || notFinite u1
+faceBad a d Symmetry = false
+faceBad a d (Velocity u0 u1) =
+    let un = along u0 u1 (normal a d) in notFinite u0 || notFinite u1 || eq (c1 ⊖ un) c0
+faceBad a d (Pressure density) = notFinite density || not (lt c0 density)
 
--- the inward normals are (1, 0), (-1, 0), (0, 1) and (0, -1)
 unfoldable pub facesBad : Settings → Bool
 facesBad s =
-    faceBad (s .«x_min») c1 c0 || faceBad (s .«x_max») (neg c1) c0
-    || faceBad (s .«y_min») c0 c1 || faceBad (s .«y_max») c0 (neg c1)
+    faceBad X Min (s .«x_min») || faceBad X Max (s .«x_max») || faceBad Y Min (s .«y_min»)
+    || faceBad Y Max (s .«y_max»)
 
 -- ---- 10: the tolerance is NaN, or there are more than 1,000,000 steps
 

@@ -1,5 +1,7 @@
 // The settings of a study, the tests of what an operation is given, and the number that refuses it.
 use cell::Collision;
+use lattice::Axis;
+use lattice::Side;
 ghost use mathlib.Core.Path.{_≡_};
 ghost use mathlib.Core.Bool.{cond};
 ghost use mathlib.Core.List.{[], _∷_};
@@ -86,9 +88,9 @@ fn rate_bad(collision: Collision) -> bool
     }
 }
 
-// Whether a face's own numbers are bad; (n0, n1) is its inward normal.
-fn face_bad(face: Face, n0: f64, n1: f64) -> bool
-    ensures { λ r. ⌜ r ≡ faceBad face n0 n1 ⌝ }
+// Whether a face's own numbers are bad.
+fn face_bad(axis: Axis, side: Side, face: Face) -> bool
+    ensures { λ r. ⌜ r ≡ faceBad axis side face ⌝ }
 {
     match face {
         Face::Periodic => false,
@@ -96,7 +98,8 @@ fn face_bad(face: Face, n0: f64, n1: f64) -> bool
         Face::MovingWall(u0, u1) => number::not_finite(u0) | number::not_finite(u1),
         Face::Symmetry => false,
         Face::Velocity(u0, u1) => {
-            number::not_finite(u0) | number::not_finite(u1) | (1.0 - (u0 * n0 + u1 * n1) == 0.0)
+            let un = lattice::along_normal(axis, side, u0, u1);
+            number::not_finite(u0) | number::not_finite(u1) | (1.0 - un == 0.0)
         }
         Face::Pressure(density) => number::not_finite(density) | !(0.0 < density),
     }
@@ -206,10 +209,10 @@ fn faces(s: Settings, later: u32) -> u32
     let x_max = s.x_max;
     let y_min = s.y_min;
     let y_max = s.y_max;
-    let bad = face_bad(x_min, 1.0, 0.0)
-        | face_bad(x_max, -1.0, 0.0)
-        | face_bad(y_min, 0.0, 1.0)
-        | face_bad(y_max, 0.0, -1.0);
+    let bad = face_bad(Axis::X, Side::Min, x_min)
+        | face_bad(Axis::X, Side::Max, x_max)
+        | face_bad(Axis::Y, Side::Min, y_min)
+        | face_bad(Axis::Y, Side::Max, y_max);
     number_if(bad, 5, later)
 }
 

@@ -1,32 +1,30 @@
 -- The directions of the four faces, by computed tables over axis and side: which come in, and that they are three different ones.
--- Assumes nothing.
 use mathlib.Core.Path.{_≡_, refl, sym, ap, _∙_, subst}
 use mathlib.Core.Bool.{Bool, true, false, _||_}
-use Prim.Native.Nat.{ℕ, zero, suc, _<_}
+use Prim.Native.Nat.{ℕ, _*_, _<_}
 use native.Mathlib.Omega.{arith}
 use lib.Dec.{T, eqb}
 use borrow.Author.Tests.{eqb-true, eqb-false}
 use Rattle.number.specs.Nine.{nine}
 use Rattle.number.proofs.Nine.{all-nine}
-use Rattle.lattice.specs.Lattice.{Axis, X, Y, directions}
-use Rattle.lattice.specs.Lookup.{axisOf, isRow, lookup}
-use Rattle.streaming.specs.declared.Names.{Names}
-use Rattle.streaming.specs.declared.Planes.{Planes}
-use Rattle.streaming.specs.Steps.{part}
+use Rattle.lattice.specs.declared.Axis.{Axis}
+use Rattle.lattice.specs.declared.Axis.the-variants.{X, Y}
+use Rattle.lattice.specs.declared.Side.{Side}
+use Rattle.lattice.specs.declared.Side.the-variants.{Min, Max}
+use Rattle.lattice.specs.Lattice.{directions, OPP}
+use Rattle.lattice.specs.Lookup.{isRow, lookup, mirror}
+use Rattle.lattice.proofs.Tables.{opposite-small, mirror-small}
+use Rattle.lattice.specs.Sides.{incoming}
+use Rattle.grid.specs.Grid.{Grid}
+use Rattle.streaming.specs.declared.edge.Names.{Names}
+use Rattle.streaming.specs.declared.edge.Line.{Line}
+use Rattle.streaming.specs.declared.edge.Planes.{Planes}
+use Rattle.streaming.specs.declared.edge.Edge.{Edge}
 use Rattle.streaming.specs.Turned.{facing}
-use Rattle.streaming.specs.Faces.{Side, min, max, incoming, names}
-use Rattle.streaming.specs.Lines.{sideOf, planesOf, Small, Apart, Sound, Other}
+use Rattle.streaming.specs.Faces.{names}
+use Rattle.streaming.specs.Lines.{planesOf, Small, Apart, Sound, Other, lineOf, each, edgeOf, Built}
 use Rattle.streaming.proofs.Turned.{facing-small, facing-twice}
-
--- ---- the code's numbers for axes and sides
-
-pub not-x : (a : ℕ) → (a ≡ 0 → ⊥) → axisOf a ≡ Y
-not-x zero h = absurd (h refl)
-not-x (suc a) h = refl
-
-pub not-min : (s : ℕ) → (s ≡ 0 → ⊥) → sideOf s ≡ max
-not-min zero h = absurd (h refl)
-not-min (suc s) h = refl
+use Rattle.streaming.proofs.Lines.{line-inside}
 
 -- ---- the names of a face
 
@@ -35,27 +33,29 @@ abbrev pub named : Names → ℕ → Bool
 named d i = eqb i (d .n) || eqb i (d .np) || eqb i (d .nm)
 
 -- these three come in, and no others
-incoming-table : (a : Axis) (s : Side) → nine (named (names a s)) ≡ nine (λ i. incoming s (part a i))
+incoming-table : (a : Axis) (s : Side) → nine (named (names a s)) ≡ nine (incoming a s)
 unfolding directions names lookup isRow
-incoming-table X min = refl
-incoming-table X max = refl
-incoming-table Y min = refl
-incoming-table Y max = refl
+incoming-table X Min = refl
+incoming-table X Max = refl
+incoming-table Y Min = refl
+incoming-table Y Max = refl
 
-pub comes-in : (a : Axis) (s : Side) (i : ℕ) → i < 9 → named (names a s) i ≡ incoming s (part a i)
+pub comes-in : (a : Axis) (s : Side) (i : ℕ) → i < 9 → named (names a s) i ≡ incoming a s i
 comes-in a s = all-nine (named (names a s)) _ (incoming-table a s)
 
 pub sound : (a : Axis) (s : Side) → Sound (names a s)
 unfolding directions names lookup isRow
-sound X min = search arith
-sound X max = search arith
-sound Y min = search arith
-sound Y max = search arith
+sound X Min = search arith
+sound X Max = search arith
+sound Y Min = search arith
+sound Y Max = search arith
 
 -- ---- three planes
 
-pub planes-of : (g : ℕ → ℕ) (d : Names) {a b c : ℕ} → a ≡ g (d .n) → b ≡ g (d .np) → c ≡ g (d .nm) → _≡_ {A = Planes} (record { n = a; np = b; nm = c }) (planesOf g d)
-planes-of g d p q r = λ x. record { n = p x; np = q x; nm = r x }
+-- each is what it is to be, and a plane
+pub three-planes : {a b c a' b' c' : ℕ} → (a ≡ a') × (a < 9) → (b ≡ b') × (b < 9) → (c ≡ c') × (c < 9)
+    → let p : Planes = record { n = a; np = b; nm = c } in (_≡_ {A = Planes} p (record { n = a'; np = b'; nm = c' })) × Small p
+three-planes (p, hp) (q, hq) (r, hr) = (λ x. record { n = p x; np = q x; nm = r x }, record { n = hp; np = hq; nm = hr })
 
 -- ---- one of three directions, or none
 
@@ -105,3 +105,39 @@ module _ (back : Bool) where
         np = λ e. o .np (facing-inj i (d .np) hi (s .np) e);
         nm = λ e. o .nm (facing-inj i (d .nm) hi (s .nm) e);
       }
+
+-- ---- a face as its cells need it
+
+built : (a : Axis) (s : Side) (back : Bool) (nx ny : ℕ) → Grid nx ny → Built (edgeOf a s back nx ny)
+built a s back nx ny g =
+    let d = names a s in
+    let three = sound a s .three in
+    let small = three .small in
+    let facing-of : (h : ℕ → ℕ) → ((i : ℕ) → i < 9 → h i < 9) → Small (planesOf (λ i. facing back (h i)) d) =
+    λ h l.
+    record {
+      n = facing-small back (h (d .n)) (l (d .n) (small .n));
+      np = facing-small back (h (d .np)) (l (d .np) (small .np));
+      nm = facing-small back (h (d .nm)) (l (d .nm) (small .nm));
+    } in
+    record {
+      names-of = refl;
+      into-of = refl;
+      opposite-of = refl;
+      mirrored-of = refl;
+      inside = line-inside a s nx ny g;
+      sound = sound a s;
+      into-apart = three-facing back d three;
+      opposite-small = facing-of OPP opposite-small;
+      mirrored-small = facing-of (mirror a) (mirror-small a);
+    }
+
+-- from its parts, as the code makes them
+pub edge-is : (a : Axis) (s : Side) (back : Bool) (nx ny : ℕ) → Grid nx ny → {d : Names} {l : Line} {p q r o m : Planes} → d ≡ names a s → l ≡ lineOf a s nx ny
+    → p ≡ each (facing back) (planesOf (λ i. i) d)
+    → o ≡ planesOf OPP d
+    → q ≡ each (facing back) o
+    → m ≡ planesOf (mirror a) d
+    → r ≡ each (facing back) m
+    → let e : Edge = record { axis = a; side = s; back = back; cells = nx * ny; line = l; names = d; into = p; opposite = q; mirrored = r } in (e ≡ edgeOf a s back nx ny) × Built e
+edge-is a s back nx ny g ed el ep eo eq em er = rw (ep, eq, eo, er, em, ed, el) (refl, built a s back nx ny g)

@@ -1,7 +1,6 @@
 -- A face by its rule: what was written along its line of cells is the face's field, and a face keeps fields that agree in agreement.
--- Assumes nothing.
 use mathlib.Core.Path.{_≡_, refl, sym, ap, _∙_}
-use mathlib.Core.Bool.{Bool, true, false, cond, _&&_}
+use mathlib.Core.Bool.{Bool, true, false, cond, _&&_, false≢true}
 use mathlib.Core.List.{List}
 use Prim.Native.Nat.{ℕ, _+_, _-_, _*_, _<_}
 use native.Mathlib.Omega.{arith}
@@ -10,20 +9,27 @@ use lib.Ieee.{ofBits, eq, ne}
 use borrow.Author.Tests.{eqb-true, eqb-false}
 use Rattle.number.specs.Number.{valueOf, c0}
 use Rattle.number.proofs.Nine.{nine-of}
-use Rattle.lattice.specs.Lattice.{Axis, X, Y, OPP}
+use Rattle.lattice.specs.declared.Axis.{Axis}
+use Rattle.lattice.specs.declared.Axis.the-variants.{X, Y}
+use Rattle.lattice.specs.declared.Side.{Side}
+use Rattle.lattice.specs.declared.Side.the-variants.{Min, Max}
+use Rattle.lattice.specs.Lattice.{OPP}
 use Rattle.lattice.specs.Lookup.{mirror}
+use Rattle.lattice.specs.Sides.{incoming}
 use Rattle.lattice.proofs.Tables.{opposite-small, mirror-small}
 use Rattle.grid.specs.Grid.{Field, fieldOf, Same}
 use Rattle.grid.proofs.Radix.{within, low-inj, high-inj}
 use Rattle.settings.specs.declared.Face.{Face}
 use Rattle.settings.specs.declared.Face.the-variants.{Periodic, NoSlip, MovingWall, Symmetry, Velocity, Pressure}
-use Rattle.streaming.specs.declared.Names.{Names}
-use Rattle.streaming.specs.declared.Entries.{Entries}
-use Rattle.streaming.specs.Steps.{part}
+use Rattle.settings.specs.Tests.{isPeriodic}
+use Rattle.streaming.specs.declared.edge.Names.{Names}
+use Rattle.streaming.specs.declared.edge.Edge.{Edge}
+use Rattle.streaming.specs.declared.entries.Entries.{Entries}
 use Rattle.streaming.specs.Turned.{facing, seen}
 use Rattle.streaming.specs.Rows.{Became}
-use Rattle.streaming.specs.Faces.{Side, min, max, sizeOf, coordOf, onFace, incoming, fed, cellAt, moving, pushed, walled, names, zouHeAt, takes, face}
-use Rattle.streaming.specs.Lines.{lineOf, spot, planesOf, entriesOf, alone, Along}
+use Rattle.streaming.specs.Faces.{sizeOf, coordOf, onFace, fed, cellAt, moving, pushed, walled, names, zouHeAt, takes, face}
+use Rattle.streaming.specs.Lines.{lineOf, spot, planesOf, entriesOf, alone, Sound, Built, takenAt, Along}
+use Rattle.streaming.proofs.Lines.{spots-differ}
 use Rattle.streaming.proofs.Directions.{comes-in, sound, One, is-n, is-np, is-nm, one-of, none-of, other-facing}
 
 -- ---- which cells a face has
@@ -34,26 +40,26 @@ across X x y = y
 across Y x y = x
 
 -- (x, y) is cell k of the line
-record At (a : Axis) (s : Side) (nx ny x y k : ℕ) : Type 0 where
-  below : k < lineOf a s nx ny .count
-  cell : x + y * nx ≡ spot (lineOf a s nx ny) k
+pub record At (a : Axis) (s : Side) (nx ny x y k : ℕ) : Type 0 where
+  pub below : k < lineOf a s nx ny .count
+  pub cell : x + y * nx ≡ spot (lineOf a s nx ny) k
 
-on-line : (a : Axis) (s : Side) (nx ny x y : ℕ) → x < nx → y < ny → onFace s (sizeOf a nx ny) (coordOf a x y) ≡ true → At a s nx ny x y (across a x y)
-on-line X min nx ny x y hx hy e = let z = eqb-true x 0 e in record { below = hy; cell = rw z }
-on-line X max nx ny x y hx hy e = let z = eqb-true (x + 1) nx e in record { below = hy; cell = omega arith }
-on-line Y min nx ny x y hx hy e = let z = eqb-true y 0 e in record { below = hx; cell = rw z (omega arith) }
-on-line Y max nx ny x y hx hy e =
+pub on-line : (a : Axis) (s : Side) (nx ny x y : ℕ) → x < nx → y < ny → onFace s (sizeOf a nx ny) (coordOf a x y) ≡ true → At a s nx ny x y (across a x y)
+on-line X Min nx ny x y hx hy e = let z = eqb-true x 0 e in record { below = hy; cell = rw z }
+on-line X Max nx ny x y hx hy e = let z = eqb-true (x + 1) nx e in record { below = hy; cell = omega arith }
+on-line Y Min nx ny x y hx hy e = let z = eqb-true y 0 e in record { below = hx; cell = rw z (omega arith) }
+on-line Y Max nx ny x y hx hy e =
     let z = eqb-true (y + 1) ny e in
     let p : y ≡ ny - 1 = omega arith in
     record { below = hx; cell = ap (λ (t : ℕ). x + t * nx) p ∙ omega arith }
 
 off-line : (a : Axis) (s : Side) (nx ny x y : ℕ) → x < nx → y < ny → onFace s (sizeOf a nx ny) (coordOf a x y) ≡ false → (k : ℕ) → At a s nx ny x y k → ⊥
-off-line X min nx ny x y hx hy e k w = eqb-false x 0 e (low-inj nx x y 0 k hx (omega arith) (w .cell))
-off-line X max nx ny x y hx hy e k w =
+off-line X Min nx ny x y hx hy e k w = eqb-false x 0 e (low-inj nx x y 0 k hx (omega arith) (w .cell))
+off-line X Max nx ny x y hx hy e k w =
     let q = low-inj nx x y (nx - 1) k hx (omega arith) (w .cell) in
     eqb-false (x + 1) nx e (omega arith)
-off-line Y min nx ny x y hx hy e k w = eqb-false y 0 e (high-inj nx x y k 0 hx (w .below) (w .cell ∙ omega arith))
-off-line Y max nx ny x y hx hy e k w =
+off-line Y Min nx ny x y hx hy e k w = eqb-false y 0 e (high-inj nx x y k 0 hx (w .below) (w .cell ∙ omega arith))
+off-line Y Max nx ny x y hx hy e k w =
     let q = high-inj nx x y k (ny - 1) hx (w .below) (w .cell ∙ omega arith) in
     eqb-false (y + 1) ny e (omega arith)
 
@@ -98,14 +104,22 @@ face-same a s k {nx} {ny} {p} {q} {p'} {q'} sp sq =
     by-test false et eu = eu
 
 -- a periodic face does nothing
-pub still : (back : Bool) (a : Axis) (s : Side) (nx ny : ℕ) (p : Field) (f : List ℕ) → Became back nx ny f f (face a s Periodic nx ny p (seen back nx ny f))
+pub passed-by : (a : Axis) (s : Side) (k : Face) (nx ny : ℕ) (p q : Field) (x y i : ℕ) → isPeriodic k ≡ true → face a s k nx ny p q x y i ≡ q x y i
 unfolding face takes
-still back a s nx ny p f =
-    record { size = refl; field = record { here = λ x y i hx hy hi. either (fed a s nx ny x y i) (seen back nx ny f x y i) } }
+passed-by a s Periodic nx ny p q x y i h = either (fed a s nx ny x y i)
   where
-    either : (b : Bool) (v : ℕ) → v ≡ cond b v v
-    either true v = refl
-    either false v = refl
+    either : (b : Bool) → cond b (q x y i) (q x y i) ≡ q x y i
+    either true = refl
+    either false = refl
+passed-by a s NoSlip nx ny p q x y i h = absurd (false≢true h)
+passed-by a s (MovingWall u v) nx ny p q x y i h = absurd (false≢true h)
+passed-by a s Symmetry nx ny p q x y i h = absurd (false≢true h)
+passed-by a s (Velocity u v) nx ny p q x y i h = absurd (false≢true h)
+passed-by a s (Pressure r) nx ny p q x y i h = absurd (false≢true h)
+
+pub still : (back : Bool) (a : Axis) (s : Side) (k : Face) (nx ny : ℕ) (p : Field) (f : List ℕ) → isPeriodic k ≡ true → Became back nx ny f f (face a s k nx ny p (seen back nx ny f))
+still back a s k nx ny p f h =
+    record { size = refl; field = record { here = λ x y i hx hy hi. sym (passed-by a s k nx ny p (seen back nx ny f) x y i h) } }
 
 -- ---- a wall whose speeds both equal 0
 
@@ -116,6 +130,25 @@ at-rest = refl
 pub rests : (post : Field) (d : Names) → entriesOf (walled c0 c0 post 0 0) d ≡ entriesOf (λ i. post 0 0 (OPP i)) d
 unfolding walled
 rests post d = rw at-rest
+
+-- ---- a cell that the line has not come to
+
+entries-same : (g h : ℕ → ℕ) (d : Names) → Sound d → ((i : ℕ) → i < 9 → g i ≡ h i) → entriesOf g d ≡ entriesOf h d
+entries-same g h d s e =
+    let l = s .three .small in
+    λ x. record { n = e (d .n) (l .n) x; np = e (d .np) (l .np) x; nm = e (d .nm) (l .nm) x }
+
+-- it takes what it would have taken before
+pub not-yet : {d g : List ℕ} {v : ℕ → Entries} (e : Edge) (kind : Face) (post : List ℕ) (k : ℕ) → Built e → k < e .line .count → Along d g (e .cells) (e .line) (e .into) k v
+    → takenAt e kind post g (spot (e .line) k) ≡ takenAt e kind post d (spot (e .line) k)
+not-yet {d} {g} e kind post k b h w =
+    let n = e .cells in
+    let c = spot (e .line) k in
+    let p = alone (e .back) post n c in
+    entries-same _ _ (e .names) (b .sound)
+    (λ i l.
+    takes-local (e .axis) (e .side) kind p (alone (e .back) g n c) p (alone (e .back) d n c) 0 0 0 0 i l (λ j _. refl)
+    (λ j _. w .cells c (facing (e .back) j) (b .inside .cell k h) (λ m l q. spots-differ (b .inside) m k l (sym q))))
 
 -- ---- what was written along the line
 
@@ -136,7 +169,7 @@ module _ (back : Bool) (a : Axis) (s : Side) (k : Face) (nx ny : ℕ) (post f e 
       let l = lineOf a s nx ny in
       Along f e (nx * ny) l (planesOf (facing back) (names a s)) (l .count) (λ j. taken (spot l j))
 
-  at-cell : Settled → (x y i : ℕ) → x < nx → y < ny → i < 9 → (p q : Bool) → incoming s (part a i) ≡ p → onFace s (sizeOf a nx ny) (coordOf a x y) ≡ q
+  at-cell : Settled → (x y i : ℕ) → x < nx → y < ny → i < 9 → (p q : Bool) → incoming a s i ≡ p → onFace s (sizeOf a nx ny) (coordOf a x y) ≡ q
       → seen back nx ny e x y i ≡ cond (p && q) (takes a s k (seen back nx ny post) (seen back nx ny f) x y i) (seen back nx ny f x y i)
   unfolding fieldOf
   at-cell w x y i hx hy hi false q ep eq =
@@ -160,5 +193,5 @@ module _ (back : Bool) (a : Axis) (s : Side) (k : Face) (nx ny : ℕ) (post f e 
       rw is
       (record {
         size = w .size;
-        field = record { here = λ x y i hx hy hi. at-cell w x y i hx hy hi (incoming s (part a i)) (onFace s (sizeOf a nx ny) (coordOf a x y)) refl refl };
+        field = record { here = λ x y i hx hy hi. at-cell w x y i hx hy hi (incoming a s i) (onFace s (sizeOf a nx ny) (coordOf a x y)) refl refl };
       })

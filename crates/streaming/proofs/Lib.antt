@@ -5,7 +5,9 @@ pub mod Directions
 pub mod Lines
 pub mod Faces
 pub mod Carried
+pub mod Finite
 pub mod One
 pub mod Dirs
+pub mod Sides
 pub mod Source
 pub mod Divisor

@@ -1,6 +1,5 @@
 -- What a write along a face leaves alone: the laws that every loop along a face cites, over the entries that it writes.
--- Assumes nothing.
-use mathlib.Core.Path.{_≡_, refl, sym, _∙_, subst}
+use mathlib.Core.Path.{_≡_, refl, _∙_, subst}
 use mathlib.Core.List.{List}
 use Prim.Native.Nat.{ℕ, _+_, _-_, _*_, _≤_, _<_}
 use native.Mathlib.Nat.{mul-le-mul-right}
@@ -8,25 +7,25 @@ use native.Mathlib.Omega.{arith}
 use borrow.Author.Count.{below-more}
 use lib.ListN.{length, getD, set, length-set}
 use lib.Seq.{getD-set-same, getD-set-other}
-use Rattle.number.specs.Number.{valueOf}
-use Rattle.number.specs.Nine.{nine}
-use Rattle.lattice.specs.Lattice.{Axis, X, Y}
-use Rattle.grid.specs.Grid.{Grid, Holds, cellOf}
+use Rattle.lattice.specs.declared.Axis.{Axis}
+use Rattle.lattice.specs.declared.Axis.the-variants.{X, Y}
+use Rattle.lattice.specs.declared.Side.{Side}
+use Rattle.lattice.specs.declared.Side.the-variants.{Min, Max}
+use Rattle.grid.specs.Grid.{Grid, Holds}
 use Rattle.grid.proofs.Radix.{within, low-inj, high-inj, cell-in}
-use Rattle.streaming.specs.declared.Line.{Line}
-use Rattle.streaming.specs.declared.Planes.{Planes}
-use Rattle.streaming.specs.declared.Entries.{Entries}
-use Rattle.streaming.specs.Faces.{Side, min, max}
+use Rattle.streaming.specs.declared.edge.Line.{Line}
+use Rattle.streaming.specs.declared.edge.Planes.{Planes}
+use Rattle.streaming.specs.declared.entries.Entries.{Entries}
 use Rattle.streaming.specs.Lines.{lineOf, spot, Inside, entriesAt, Apart, Changed, Along}
 
 -- ---- where the cells of a face stand
 
 pub line-inside : (a : Axis) (s : Side) (nx ny : ℕ) → Grid nx ny → Inside (lineOf a s nx ny) (nx * ny)
-line-inside X min nx ny g = record { few = g .few; apart = g .x-some; cell = λ k h. within 0 k nx ny (g .x-some) h }
-line-inside X max nx ny g = record { few = g .few; apart = g .x-some; cell = λ k h. within (nx - 1) k nx ny (omega arith) h }
-line-inside Y min nx ny g =
+line-inside X Min nx ny g = record { few = g .few; apart = g .x-some; cell = λ k h. within 0 k nx ny (g .x-some) h }
+line-inside X Max nx ny g = record { few = g .few; apart = g .x-some; cell = λ k h. within (nx - 1) k nx ny (omega arith) h }
+line-inside Y Min nx ny g =
     record { few = g .few; apart = omega arith; cell = λ k h. omega (arith, within k 0 nx ny h (g .y-some)) }
-line-inside Y max nx ny g =
+line-inside Y Max nx ny g =
     record { few = g .few; apart = omega arith; cell = λ k h. omega (arith, within k (ny - 1) nx ny h (omega arith)) }
 
 -- no cell of a line comes twice
@@ -97,17 +96,5 @@ along-more d e g n l p k v u inside hk w c is = (
   },
 )
 
--- the same entries
-pub along-same : {d e : List ℕ} {n : ℕ} {l : Line} {p : Planes} {k : ℕ} {v u : ℕ → Entries} → ((j : ℕ) → v j ≡ u j) → Along d e n l p k v → Along d e n l p k u
-along-same q w = record { size = w .size; written = λ j h. w .written j h ∙ q j; cells = w .cells; planes = w .planes }
-
 pub along-all : {d e : List ℕ} {n : ℕ} {l : Line} {p : Planes} {j k : ℕ} {v : ℕ → Entries} → Along d e n l p j v → j ≡ k → Along d e n l p k v
 along-all {d} {e} {n} {l} {p} {v = v} w q = subst (λ (k : ℕ). Along d e n l p k v) q w
-
--- a cell that the line has not come to is as it was
-pub not-yet : {d e : List ℕ} {n : ℕ} {l : Line} {p : Planes} {v : ℕ → Entries} (k : ℕ) → Inside l n → k < l .count → Along d e n l p k v → cellOf e n (spot l k) ≡ cellOf d n (spot l k)
-unfolding cellOf
-not-yet {d} {e} {n} {l} k inside hk w =
-    let kept : (i : ℕ) → getD e (spot l k + i * n) 0 ≡ getD d (spot l k + i * n) 0 =
-    λ i. w .cells (spot l k) i (inside .cell k hk) (λ j h q. spots-differ inside j k h (sym q)) in
-    λ x. nine (λ i. valueOf (kept i x))

@@ -1,12 +1,11 @@
 -- The laws of a turn around a side: where it comes to, that it stays on the side, and that a step and the step back undo each other.
--- Assumes nothing.
 use mathlib.Core.Path.{_≡_, ap, _∙_}
 use Prim.Native.Nat.{ℕ, _+_, _-_, _%_, _≤_, _<_}
 use native.Mathlib.Nat.{mod-eq-of-lt, mod-eq-sub-mod, mod-lt, mod-add-mod, add-mod-right}
 use native.Mathlib.Omega.{arith}
-use Rattle.lattice.specs.Lattice.{X, Y}
+use Rattle.lattice.specs.declared.Axis.the-variants.{X, Y}
 use Rattle.grid.specs.Grid.{Field}
-use Rattle.streaming.specs.Steps.{Step, stay, up, down, part, against, turn, moved, streamed}
+use Rattle.streaming.specs.Travel.{Step, stay, up, down, part, against, turn, moved, streamed}
 
 -- a number below two turns around a side
 pub mod-once : (k n : ℕ) → n ≤ k → k < n + n → k % n ≡ k - n

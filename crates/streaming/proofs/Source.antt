@@ -1,34 +1,28 @@
 -- Over Periodic, NoSlip and Symmetry every final entry is a copy of the entry at its source; `target` is `source` with opposite directions swapped.
--- Assumes nothing.
 use mathlib.Core.Path.{_≡_, refl, sym, ap, _∙_}
-use mathlib.Core.Bool.{Bool, true, false, cond, _&&_, _||_, true≢false}
+use mathlib.Core.Bool.{Bool, true, false, cond, _&&_, true≢false}
 use Prim.Native.Nat.{ℕ, _<_}
 use native.Mathlib.Omega.{arith}
-use Rattle.lattice.specs.Lattice.{Axis, X, Y, OPP}
+use Rattle.lattice.specs.declared.Axis.{Axis}
+use Rattle.lattice.specs.declared.Axis.the-variants.{X, Y}
+use Rattle.lattice.specs.declared.Side.{Side}
+use Rattle.lattice.specs.declared.Side.the-variants.{Min, Max}
+use Rattle.lattice.specs.Lattice.{OPP}
 use Rattle.lattice.specs.Lookup.{mirror}
 use Rattle.lattice.proofs.Tables.{opposite-twice, opposite-small, mirror-small}
 use Rattle.grid.specs.Grid.{Field}
 use Rattle.settings.specs.declared.Face.{Face}
 use Rattle.settings.specs.declared.Face.the-variants.{Periodic, NoSlip, MovingWall, Symmetry, Velocity, Pressure}
 use Rattle.settings.specs.declared.Settings.{Settings}
-use Rattle.settings.specs.Tests.{drives, driven, isPeriodic, isSymmetry}
-use Rattle.settings.proofs.Laws.{or-left, or-right}
-use Rattle.streaming.specs.Steps.{Step, stay, up, down, part, against, moved, streamed}
+use Rattle.settings.specs.Tests.{faceOf, drives, driven, isPeriodic, isSymmetry}
+use Rattle.streaming.proofs.Sides.{undriven}
+use Rattle.streaming.specs.Travel.{Step, stay, up, down, part, against, moved, streamed}
 use Rattle.streaming.specs.Turned.{turned}
-use Rattle.streaming.specs.Faces.{Side, min, max, incoming, fed, takes, face}
+use Rattle.streaming.specs.Faces.{fed, takes, face}
 use Rattle.streaming.specs.Streaming.{next}
-use Rattle.streaming.specs.Source.{Entry, entry, On, held, opposite, faceOf, enters, leaves, turnedBack, came, goes, source, target}
-use Rattle.streaming.proofs.Dirs.{against-twice, opposite-part, mirror-between}
+use Rattle.streaming.specs.Source.{Entry, entry, On, held, opposite, enters, leaves, turnedBack, came, goes, source, target}
+use Rattle.streaming.proofs.Dirs.{against-twice, opposite-part, mirror-between, entering, incoming-by-step}
 use Rattle.streaming.proofs.Ring.{turn-lt}
-
--- ---- no face is driven
-
-pub plain : (s : Settings) → driven s ≡ false → (a : Axis) (d : Side) → drives (faceOf s a d) ≡ false
-unfolding driven
-plain s h X min = or-left _ _ (or-left _ _ (or-left _ _ h))
-plain s h X max = or-right (drives (s .«x_min»)) _ (or-left _ _ (or-left _ _ h))
-plain s h Y min = or-right (drives (s .«x_min») || drives (s .«x_max»)) _ (or-left _ _ h)
-plain s h Y max = or-right (drives (s .«x_min») || drives (s .«x_max») || drives (s .«y_min»)) _ h
 
 -- ---- one face, and the two across an axis
 
@@ -55,8 +49,8 @@ module _ (a : Axis) (post : Field) (e : Entry) where
 
 -- a direction comes in through one face across an axis at most
 both : (a : Axis) (f : Side → Face) (c : Step) (l h : Bool) (e o : Entry)
-    → cond (incoming max c && h) (turnedBack a (f max) e (cond (incoming min c && l) (turnedBack a (f min) e o) o)) (cond (incoming min c && l) (turnedBack a (f min) e o) o)
-    ≡ turnedBack a (cond (incoming min c && l) (f min) (cond (incoming max c && h) (f max) Periodic)) e o
+    → cond (entering Max c && h) (turnedBack a (f Max) e (cond (entering Min c && l) (turnedBack a (f Min) e o) o)) (cond (entering Min c && l) (turnedBack a (f Min) e o) o)
+    ≡ turnedBack a (cond (entering Min c && l) (f Min) (cond (entering Max c && h) (f Max) Periodic)) e o
 both a f stay l h e o = refl
 both a f up true h e o = refl
 both a f up false h e o = refl
@@ -65,12 +59,12 @@ both a f down l false e o = refl
 
 module _ (s : Settings) (calm : driven s ≡ false) (post : Field) where
   across : (a : Axis) (prev : Field) (e o : Entry) → held prev e ≡ held post o
-      → held (face a max (faceOf s a max) (s .nx) (s .ny) post (face a min (faceOf s a min) (s .nx) (s .ny) post prev)) e ≡ held post (turnedBack a (enters s a e) e o)
+      → held (face a Max (faceOf s a Max) (s .nx) (s .ny) post (face a Min (faceOf s a Min) (s .nx) (s .ny) post prev)) e ≡ held post (turnedBack a (enters s a e) e o)
   unfolding enters
   across a prev e o is =
-      one a post e max (faceOf s a max) (s .nx) (s .ny) (plain s calm a max) _ _
-      (one a post e min (faceOf s a min) (s .nx) (s .ny) (plain s calm a min) prev o is)
-      ∙ ap (held post) (both a (faceOf s a) (part a (e .i)) _ _ e o)
+      one a post e Max (faceOf s a Max) (s .nx) (s .ny) (undriven s calm a Max) _ _
+      (one a post e Min (faceOf s a Min) (s .nx) (s .ny) (undriven s calm a Min) prev o is)
+      ∙ ap (held post) (rw (incoming-by-step a Min (e .i), incoming-by-step a Max (e .i)) (both a (faceOf s a) (part a (e .i)) _ _ e o))
 
   -- EVERY FINAL ENTRY IS A COPY of the post-collision entry at its source
   pub copied : (e : Entry) → held (next s post) e ≡ held post (source s e)

@@ -1,5 +1,4 @@
 -- The travel turned round twice is as it was, and facing directions are directions.
--- Assumes nothing.
 use mathlib.Core.Path.{_≡_, refl, sym, _∙_, subst}
 use mathlib.Core.Bool.{Bool, true, false}
 use Prim.Native.Nat.{ℕ, _<_}

@@ -1,27 +1,27 @@
 -- The rules of the faces, each stated once over axis and side.
--- Assumes nothing.
-use mathlib.Core.Bool.{Bool, true, false, cond, _&&_, _||_}
+use mathlib.Core.Bool.{Bool, cond, _&&_}
 use mathlib.Core.List.{List}
 use Prim.Native.Nat.{ℕ, _+_}
 use lib.Dec.{eqb}
-use lib.IntN.{ℤ, pos, negsuc, negℤ, _+ℤ_, _-ℤ_}
-use lib.Ieee.{Float, binary64, ofInt}
+use lib.IntN.{ℤ, negℤ, _+ℤ_, _-ℤ_}
+use lib.Ieee.{Float}
 use Rattle.number.specs.Number.{valueOf, patternOf, notBothZero, c0, c½, c1, c2, c3, c6, _⊕_, _⊖_, _⊗_, _⊘_}
 use Rattle.number.specs.Nine.{at, nine}
-use Rattle.lattice.specs.Lattice.{Axis, X, Y, W, OPP}
+use Rattle.lattice.specs.declared.Axis.{Axis}
+use Rattle.lattice.specs.declared.Axis.the-variants.{X, Y}
+use Rattle.lattice.specs.declared.Side.{Side}
+use Rattle.lattice.specs.declared.Side.the-variants.{Min, Max}
+use Rattle.lattice.specs.Lattice.{W, OPP}
+use Rattle.lattice.specs.Sides.{normal, tangent, along, incoming}
 use Rattle.lattice.specs.Lookup.{dirIndexOf, mirror}
 use Rattle.grid.specs.Grid.{Field}
 use Rattle.cell.specs.Cell.{alongAt, densityOf}
 use Rattle.settings.specs.declared.Face.{Face}
 use Rattle.settings.specs.declared.Face.the-variants.{Periodic, NoSlip, MovingWall, Symmetry, Velocity, Pressure}
-use Rattle.streaming.specs.Steps.{Step, stay, up, down, part}
-use Rattle.streaming.specs.declared.Names.{Names}
-use Rattle.streaming.specs.declared.Prescribed.{Prescribed}
+use Rattle.streaming.specs.declared.edge.Names.{Names}
+use Rattle.streaming.specs.declared.zou_he.Prescribed.{Prescribed}
 
 -- ---- where a face is, and which directions come in through it
-
-pub data Side : Type 0 where
-  min max : Side
 
 -- along an axis: the side's length, and a cell's coordinate
 abbrev pub sizeOf : Axis → ℕ → ℕ → ℕ
@@ -34,21 +34,12 @@ coordOf Y x y = y
 
 -- the coordinate k of a side of n lies on the face
 abbrev pub onFace : Side → ℕ → ℕ → Bool
-onFace min n k = eqb k 0
-onFace max n k = eqb (k + 1) n
-
--- e · n > 0, with n the inward normal
-abbrev pub incoming : Side → Step → Bool
-incoming min stay = false
-incoming min up = true
-incoming min down = false
-incoming max stay = false
-incoming max up = false
-incoming max down = true
+onFace Min n k = eqb k 0
+onFace Max n k = eqb (k + 1) n
 
 -- (x, y) is a cell of the face, and direction i comes in through it
 abbrev pub fed : Axis → Side → ℕ → ℕ → ℕ → ℕ → ℕ → Bool
-fed a s nx ny x y i = incoming s (part a i) && onFace s (sizeOf a nx ny) (coordOf a x y)
+fed a s nx ny x y i = incoming a s i && onFace s (sizeOf a nx ny) (coordOf a x y)
 
 -- ---- MovingWall
 
@@ -71,28 +62,11 @@ walled u v post x y i = cond (moving u v) (pushed u v post x y i) (post x y (OPP
 
 -- ---- Velocity and Pressure: zou_he
 
--- the inward normal n and the tangent t of a face, component by component
-abbrev pub sign : Side → ℤ
-sign min = pos 1
-sign max = negsuc 0
-
-abbrev pub normal : Axis → Side → Axis → ℤ
-normal X s X = sign s
-normal X s Y = pos 0
-normal Y s X = pos 0
-normal Y s Y = sign s
-
-abbrev pub tangent : Axis → Axis → ℤ
-tangent X X = pos 0
-tangent X Y = pos 1
-tangent Y X = pos 1
-tangent Y Y = pos 0
-
 -- the direction with the components that g has along x and y
 abbrev pub dir : (Axis → ℤ) → ℕ
 dir g = dirIndexOf (g X) (g Y) .direction
 
--- the directions n, t, -t, n + t and n - t
+-- the directions n, t, -t, n + t and n - t, with n the inward normal and t the tangent
 unfoldable pub names : Axis → Side → Names
 names a s = record {
   n = dir (normal a s);
@@ -102,10 +76,6 @@ names a s = record {
   nm = dir (λ b. normal a s b -ℤ tangent a b);
 }
 
--- (u, v) along a vector of whole numbers
-abbrev pub along : Float → Float → (Axis → ℤ) → Float
-along u v g = u ⊗ ofInt binary64 (g X) ⊕ v ⊗ ofInt binary64 (g Y)
-
 -- the density and the velocity along n and t that a face prescribes, from what it knows: the entries along the face plus twice
 -- the outgoing ones
 unfoldable pub byVelocity : Float → Float → Float → Prescribed
@@ -114,8 +84,8 @@ byVelocity un ut sum = record { rho = sum ⊘ (c1 ⊖ un); un = un; ut = ut }
 unfoldable pub byPressure : Float → Float → Prescribed
 byPressure rho sum = record { rho = rho; un = c1 ⊖ sum ⊘ rho; ut = c0 }
 
-unfoldable pub known : Names → List Float → Float
-known d f =
+unfoldable pub knownSum : Names → List Float → Float
+knownSum d f =
     let parallel = at f 0 ⊕ at f (d .t) ⊕ at f (d .tm) in
     let outgoing = at f (OPP (d .n)) ⊕ at f (OPP (d .np)) ⊕ at f (OPP (d .nm)) in
     parallel ⊕ c2 ⊗ outgoing
@@ -130,7 +100,7 @@ zouHe d w f i =
 
 -- the same from what the face prescribes and the field before it
 unfoldable pub zouHeAt : Names → (Float → Prescribed) → Field → ℕ → ℕ → ℕ → ℕ
-zouHeAt d prescribe prev x y i = let f = cellAt prev x y in patternOf (zouHe d (prescribe (known d f)) f i)
+zouHeAt d prescribe prev x y i = let f = cellAt prev x y in patternOf (zouHe d (prescribe (knownSum d f)) f i)
 
 -- ---- ONE FACE: what a direction that comes in takes, from the post-collision field and the field as it stands before the face
 

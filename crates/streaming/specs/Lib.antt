@@ -1,4 +1,4 @@
-pub mod Steps
+pub mod Travel
 pub mod Faces
 pub mod Streaming
 pub mod Turned

@@ -1,41 +1,46 @@
--- What the functions below `face` cite: where a face's cells stand, the three entries that come in at each, and what writing them leaves.
--- Assumes nothing.
+-- What `face` and the functions below it cite: where a face's cells stand, the three entries that come in at each, and what writing
+-- them leaves.
 use mathlib.Core.Path.{_≡_}
-use mathlib.Core.Bool.{Bool}
+use mathlib.Core.Bool.{Bool, cond}
 use mathlib.Core.List.{List}
-use Prim.Native.Nat.{ℕ, zero, suc, _+_, _-_, _*_, _≤_, _<_}
+use Prim.Native.Nat.{ℕ, _+_, _-_, _*_, _≤_, _<_}
 use lib.ListN.{length, getD}
 use lib.Ieee.{Float}
-use Rattle.lattice.specs.Lattice.{Axis, X, Y}
-use Rattle.grid.specs.Grid.{Field, mostCells}
-use Rattle.streaming.specs.Turned.{facing}
-use Rattle.streaming.specs.Faces.{Side, min, max, normal, tangent, along, byVelocity, byPressure}
-use Rattle.streaming.specs.declared.Frame.{Frame}
-use Rattle.streaming.specs.declared.Names.{Names}
-use Rattle.streaming.specs.declared.Line.{Line}
-use Rattle.streaming.specs.declared.Planes.{Planes}
-use Rattle.streaming.specs.declared.Entries.{Entries}
-use Rattle.streaming.specs.declared.Prescribed.{Prescribed}
-use Rattle.streaming.specs.declared.ZouHe.{ZouHe}
-use Rattle.streaming.specs.declared.ZouHe.the-variants.{Velocity, Pressure}
+use lib.Bits.{bitOr}
+use Rattle.number.specs.Joined.{joinedTo}
+use Rattle.lattice.specs.declared.Axis.{Axis}
+use Rattle.lattice.specs.declared.Axis.the-variants.{X, Y}
+use Rattle.lattice.specs.declared.Side.{Side}
+use Rattle.lattice.specs.declared.Side.the-variants.{Min, Max}
+use Rattle.lattice.specs.Lattice.{OPP}
+use Rattle.lattice.specs.Lookup.{mirror}
+use Rattle.grid.specs.Grid.{Field, bufferOf, mostCells}
+use Rattle.grid.specs.Finite.{joinedBuffer}
+use Rattle.settings.specs.declared.Face.{Face}
+use Rattle.settings.specs.declared.Settings.{Settings}
+use Rattle.settings.specs.Tests.{faceOf, isPeriodic}
+use Rattle.streaming.specs.Turned.{facing, turned, seen, carried}
+use Rattle.streaming.specs.Rows.{Became}
+use Rattle.streaming.specs.Faces.{names, byVelocity, byPressure, takes, face}
+use Rattle.streaming.specs.Streaming.{bounded}
+use Rattle.streaming.specs.Travel.{streamed}
+use Rattle.streaming.specs.declared.edge.Names.{Names}
+use Rattle.streaming.specs.declared.edge.Line.{Line}
+use Rattle.streaming.specs.declared.edge.Planes.{Planes}
+use Rattle.streaming.specs.declared.edge.Edge.{Edge}
+use Rattle.streaming.specs.declared.entries.Entries.{Entries}
+use Rattle.streaming.specs.declared.zou_he.Prescribed.{Prescribed}
+use Rattle.streaming.specs.declared.zou_he.ZouHe.{ZouHe}
+use Rattle.streaming.specs.declared.zou_he.ZouHe.the-variants.{Velocity, Pressure}
 
 -- ---- a face
 
--- the code's number for a side: 0 for min, any other for max
-abbrev pub sideOf : ℕ → Side
-sideOf zero = min
-sideOf (suc s) = max
-
--- its inward normal and its tangent
-abbrev pub frameOf : Axis → Side → Frame
-frameOf a s = record { n0 = normal a s X; n1 = normal a s Y; t0 = tangent a X; t1 = tangent a Y }
-
 -- its cells: a column of an x face, a row of a y face
 abbrev pub lineOf : Axis → Side → ℕ → ℕ → Line
-lineOf X min nx ny = record { start = 0; stride = nx; count = ny }
-lineOf X max nx ny = record { start = nx - 1; stride = nx; count = ny }
-lineOf Y min nx ny = record { start = 0; stride = 1; count = nx }
-lineOf Y max nx ny = record { start = (ny - 1) * nx; stride = 1; count = nx }
+lineOf X Min nx ny = record { start = 0; stride = nx; count = ny }
+lineOf X Max nx ny = record { start = nx - 1; stride = nx; count = ny }
+lineOf Y Min nx ny = record { start = 0; stride = 1; count = nx }
+lineOf Y Max nx ny = record { start = (ny - 1) * nx; stride = 1; count = nx }
 
 -- ---- the cells of a line
 
@@ -54,6 +59,9 @@ pub record Inside (l : Line) (n : ℕ) : Type 0 where
 -- what a function makes of them
 abbrev pub planesOf : (ℕ → ℕ) → Names → Planes
 planesOf g d = record { n = g (d .n); np = g (d .np); nm = g (d .nm) }
+
+abbrev pub each : (ℕ → ℕ) → Planes → Planes
+each g p = record { n = g (p .n); np = g (p .np); nm = g (p .nm) }
 
 abbrev pub entriesOf : (ℕ → ℕ) → Names → Entries
 entriesOf g d = record { n = g (d .n); np = g (d .np); nm = g (d .nm) }
@@ -85,6 +93,40 @@ pub record Sound (d : Names) : Type 0 where
   pub tm : d .tm < 9
   pub three : Apart (planesOf (λ i. i) d)
 
+-- a face as its cells need it
+abbrev pub edgeOf : Axis → Side → Bool → ℕ → ℕ → Edge
+edgeOf axis side back nx ny =
+    let d = names axis side in
+    record {
+      axis = axis;
+      side = side;
+      back = back;
+      cells = nx * ny;
+      line = lineOf axis side nx ny;
+      names = d;
+      into = planesOf (facing back) d;
+      opposite = planesOf (λ i. facing back (OPP i)) d;
+      mirrored = planesOf (λ i. facing back (mirror axis i)) d;
+    }
+
+-- its parts belong together
+pub record Built (e : Edge) : Type 0 where
+  pub names-of : e .names ≡ names (e .axis) (e .side)
+  pub into-of : e .into ≡ planesOf (facing (e .back)) (e .names)
+  pub opposite-of : e .opposite ≡ planesOf (λ i. facing (e .back) (OPP i)) (e .names)
+  pub mirrored-of : e .mirrored ≡ planesOf (λ i. facing (e .back) (mirror (e .axis) i)) (e .names)
+  pub inside : Inside (e .line) (e .cells)
+  pub sound : Sound (e .names)
+  pub into-apart : Apart (e .into)
+  pub opposite-small : Small (e .opposite)
+  pub mirrored-small : Small (e .mirrored)
+
+-- what its three directions take at cell c, from the two buffers
+abbrev pub takenAt : Edge → Face → List ℕ → List ℕ → ℕ → Entries
+takenAt e k post f c =
+    let n = e .cells in
+    entriesOf (takes (e .axis) (e .side) k (alone (e .back) post n c) (alone (e .back) f n c) 0 0) (e .names)
+
 -- plane i is none of the three
 pub record Other (i : ℕ) (p : Planes) : Type 0 where
   pub n : i ≡ p .n → ⊥
@@ -109,9 +151,52 @@ pub record Along (d e : List ℕ) (n : ℕ) (l : Line) (p : Planes) (k : ℕ) (v
 
 -- ---- zou_he: what a face prescribes
 
-abbrev pub velocityOf : Axis → Side → Float → Float → ZouHe
-velocityOf a s u v = Velocity (along u v (normal a s)) (along u v (tangent a))
-
 abbrev pub prescribed : ZouHe → Float → Prescribed
 prescribed (Velocity un ut) sum = byVelocity un ut sum
 prescribed (Pressure rho) sum = byPressure rho sum
+
+-- ---- what a face leaves, and what all four leave: of the settings s, with post lent, the buffer d has become e
+
+abbrev pub Faced : Settings → Axis → Side → Bool → List ℕ → List ℕ → List ℕ → Type 0
+Faced s a d back post f e =
+    let nx = s .nx in
+    let ny = s .ny in
+    Became back nx ny f e (face a d (faceOf s a d) nx ny (seen back nx ny post) (seen back nx ny f))
+
+abbrev pub Bounded : Settings → Bool → List ℕ → List ℕ → List ℕ → Type 0
+Bounded s back post f e =
+    let nx = s .nx in
+    let ny = s .ny in
+    Became back nx ny f e (bounded s (seen back nx ny post) (seen back nx ny f))
+
+-- ---- what came in, raised and joined
+
+-- plane i along a line
+abbrev pub planeAlong : List ℕ → ℕ → Line → ℕ → ℕ → ℕ
+planeAlong b n l i k = getD b (spot l k + i * n) 0
+
+abbrev pub lineJoin : List ℕ → ℕ → Line → ℕ → ℕ
+lineJoin b n l i = joinedTo (planeAlong b n l i) (l .count)
+
+-- the three planes that come in through a face, along its cells; a periodic face lets nothing in that streaming had not copied
+unfoldable pub faceJoin : Bool → Settings → Axis → Side → List ℕ → ℕ
+faceJoin back s a d b =
+    let e = edgeOf a d back (s .nx) (s .ny) in
+    let along = lineJoin b (e .cells) (e .line) in
+    cond (isPeriodic (faceOf s a d)) 0 (bitOr (bitOr (along (e .into .n)) (along (e .into .np))) (along (e .into .nm)))
+
+unfoldable pub facesJoin : Bool → Settings → List ℕ → ℕ
+facesJoin back s b =
+    let x = bitOr (faceJoin back s X Min b) (faceJoin back s X Max b) in
+    bitOr (bitOr x (faceJoin back s Y Min b)) (faceJoin back s Y Max b)
+
+-- the buffer that streaming leaves, before the faces
+unfoldable pub streamedBuffer : Bool → Settings → List ℕ → List ℕ
+streamedBuffer back s post =
+    let nx = s .nx in
+    let ny = s .ny in
+    bufferOf nx ny (turned back (streamed nx ny (seen back nx ny post)))
+
+-- what `carry` answers: all that was streamed, and what the four faces let in
+unfoldable pub carriedJoin : Bool → Settings → List ℕ → ℕ
+carriedJoin back s post = bitOr (joinedBuffer (streamedBuffer back s post)) (facesJoin back s (carried back s post))

@@ -1,16 +1,18 @@
 -- Over Periodic, NoSlip and Symmetry every final entry is a copy: the post-collision entry that it comes from, and the final entry that one goes to.
--- Assumes nothing.
 use mathlib.Core.Bool.{cond}
 use Prim.Native.Nat.{ℕ, _<_}
-use Rattle.lattice.specs.Lattice.{Axis, X, Y, OPP}
+use Rattle.lattice.specs.declared.Axis.{Axis}
+use Rattle.lattice.specs.declared.Axis.the-variants.{X, Y}
+use Rattle.lattice.specs.declared.Side.the-variants.{Min, Max}
+use Rattle.lattice.specs.Lattice.{OPP}
 use Rattle.lattice.specs.Lookup.{mirror}
 use Rattle.grid.specs.Grid.{Field, index}
 use Rattle.settings.specs.declared.Face.{Face}
 use Rattle.settings.specs.declared.Face.the-variants.{Periodic}
 use Rattle.settings.specs.declared.Settings.{Settings}
-use Rattle.settings.specs.Tests.{isPeriodic, isSymmetry}
-use Rattle.streaming.specs.Steps.{part, against, moved}
-use Rattle.streaming.specs.Faces.{Side, min, max, fed}
+use Rattle.settings.specs.Tests.{faceOf, isPeriodic, isSymmetry}
+use Rattle.streaming.specs.Travel.{part, against, moved}
+use Rattle.streaming.specs.Faces.{fed}
 
 -- ---- entries
 
@@ -41,17 +43,11 @@ opposite e = entry (e .x) (e .y) (OPP (e .i))
 
 -- ---- the faces that an entry meets
 
-abbrev pub faceOf : Settings → Axis → Side → Face
-faceOf s X min = s .«x_min»
-faceOf s X max = s .«x_max»
-faceOf s Y min = s .«y_min»
-faceOf s Y max = s .«y_max»
-
 -- the face across an axis that an entry comes in through, and Periodic where it comes in through none
 unfoldable pub enters : Settings → Axis → Entry → Face
 enters s a e =
-    cond (fed a min (s .nx) (s .ny) (e .x) (e .y) (e .i)) (faceOf s a min)
-    (cond (fed a max (s .nx) (s .ny) (e .x) (e .y) (e .i)) (faceOf s a max) Periodic)
+    cond (fed a Min (s .nx) (s .ny) (e .x) (e .y) (e .i)) (faceOf s a Min)
+    (cond (fed a Max (s .nx) (s .ny) (e .x) (e .y) (e .i)) (faceOf s a Max) Periodic)
 
 -- the face that it goes out through: its opposite comes in there
 abbrev pub leaves : Settings → Axis → Entry → Face

@@ -1,25 +1,25 @@
 -- Streaming with faces: the rule, and the outcome of the operation.
--- Assumes nothing.
 use mathlib.Core.List.{List}
 use Prim.Native.Nat.{ℕ}
 use lib.ListN.{length}
-use Rattle.lattice.specs.Lattice.{X, Y}
+use Rattle.lattice.specs.declared.Axis.the-variants.{X, Y}
+use Rattle.lattice.specs.declared.Side.the-variants.{Min, Max}
 use Rattle.grid.specs.Grid.{Field, fieldOf, bufferOf}
 use Rattle.settings.specs.declared.Settings.{Settings}
 use Rattle.settings.specs.Refusals.{refusal, streamWithFaces}
 use Rattle.settings.specs.Outcome.{Written, written}
-use Rattle.streaming.specs.Steps.{streamed}
-use Rattle.streaming.specs.Faces.{min, max, face}
+use Rattle.streaming.specs.Travel.{streamed}
+use Rattle.streaming.specs.Faces.{face}
 
 -- the faces in their order, from the post-collision field and the field before them: a later face writes over an earlier one
 abbrev pub bounded : Settings → Field → Field → Field
 bounded s post f0 =
     let nx = s .nx in
     let ny = s .ny in
-    let f1 = face X min (s .«x_min») nx ny post f0 in
-    let f2 = face X max (s .«x_max») nx ny post f1 in
-    let f3 = face Y min (s .«y_min») nx ny post f2 in
-    face Y max (s .«y_max») nx ny post f3
+    let f1 = face X Min (s .«x_min») nx ny post f0 in
+    let f2 = face X Max (s .«x_max») nx ny post f1 in
+    let f3 = face Y Min (s .«y_min») nx ny post f2 in
+    face Y Max (s .«y_max») nx ny post f3
 
 -- STREAMING WITH FACES: streaming, then x min, x max, y min, y max
 unfoldable pub next : Settings → Field → Field

@@ -1,5 +1,4 @@
 -- The travel turned round, which the code for both ways speaks of: opposite directions change places. No public contract needs it.
--- Assumes nothing.
 use mathlib.Core.Bool.{Bool, cond}
 use mathlib.Core.List.{List}
 use Prim.Native.Nat.{ℕ}

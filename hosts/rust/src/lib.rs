@@ -49,4 +49,4 @@ pub use file::{Start, StudyFile, Wrong};
 pub use fingerprint::fingerprint;
 pub use refusal::Refusal;
 pub use settings::{Collision, Face, MAGIC_BOUNCE_BACK, Settings, trt_omega_minus};
-pub use study::{Lossless, Steady, Study, dir_index};
+pub use study::{Lossless, OtherSides, Steady, Study, dir_index};

@@ -1,4 +1,6 @@
 use crate::{Refusal, Settings, ffi};
+use std::error::Error;
+use std::fmt;
 
 /// Settings and the buffers that go with them.
 ///
@@ -39,6 +41,24 @@ pub struct Steady {
     pub residual: f64,
 }
 
+/// Settings for a study have other sides than its buffers.
+#[derive(Clone, Copy, Debug, PartialEq, Eq)]
+pub struct OtherSides {
+    /// The study's own, nx and ny.
+    pub has: (usize, usize),
+    /// Those of the settings.
+    pub given: (usize, usize),
+}
+
+impl fmt::Display for OtherSides {
+    fn fmt(&self, out: &mut fmt::Formatter) -> fmt::Result {
+        let OtherSides { has, given } = self;
+        write!(out, "the study is {} by {} and stays so; the settings are for {} by {}", has.0, has.1, given.0, given.1)
+    }
+}
+
+impl Error for OtherSides {}
+
 impl Study {
     /// A study with its buffers; refused where the sides are.
     pub fn new(settings: Settings) -> Result<Study, Refusal> {
@@ -62,9 +82,10 @@ impl Study {
     }
 
     /// Takes other settings from here on, with the same sides: the buffers are for those.
-    pub fn change(&mut self, settings: Settings) -> Result<(), Refusal> {
-        if (settings.nx, settings.ny) != (self.settings.nx, self.settings.ny) {
-            return Err(Refusal::Length);
+    pub fn change(&mut self, settings: Settings) -> Result<(), OtherSides> {
+        let (has, given) = ((self.settings.nx, self.settings.ny), (settings.nx, settings.ny));
+        if given != has {
+            return Err(OtherSides { has, given });
         }
         self.settings = settings;
         Ok(())

@@ -1,6 +1,6 @@
 //! Every operation of a study, every refusal that its methods can meet, and what a refusal leaves.
 
-use brothwagon::{Collision, Face, Lossless, Refusal, Settings, Study, dir_index, trt_omega_minus};
+use brothwagon::{Collision, Face, Lossless, OtherSides, Refusal, Settings, Study, dir_index, trt_omega_minus};
 
 /// A study whose post-collision entries each hold their own index.
 fn numbered(settings: Settings) -> Study {
@@ -141,7 +141,9 @@ fn a_refused_call_writes_nothing() {
 #[test]
 fn settings_may_change_and_sides_may_not() {
     let mut study = Study::new(Settings::new(3, 2, 0.1)).unwrap();
-    assert_eq!(study.change(Settings::new(2, 3, 0.1)), Err(Refusal::Length));
+    let other = study.change(Settings::new(2, 3, 0.1)).unwrap_err();
+    assert_eq!(other, OtherSides { has: (3, 2), given: (2, 3) });
+    assert_eq!(other.to_string(), "the study is 3 by 2 and stays so; the settings are for 2 by 3");
     assert_eq!(study.change(Settings { fx: f64::NAN, ..*study.settings() }), Ok(()));
     assert_eq!(study.step(), Err(Refusal::Force));
 }

@@ -1,4 +1,4 @@
--- `host::face_at` meets its contract: the three words, as `face_of` reads them.
+-- `host::face_at` meets its contract: the three words, as `face_of_kind` reads them.
 -- Assumes nothing.
 use borrow.Author.Needs.{needs}
 use Rattle.host.proofs.face_at.Statement.{statement}
@@ -8,7 +8,7 @@ returns : tie.Need-returns
 returns c =
     let second = c .before in
     let first = second .before .before in
-    rw (← second .value2 .ensures, ← first .value .ensures) (c .face-of .ensures)
+    rw (← second .value2 .ensures, ← first .value .ensures) (c .face-of-kind .ensures)
 
 pub face-at-spec : {M : Type 1} → statement M
 face-at-spec =

@@ -13,8 +13,10 @@ use borrow.Author.Tests.{ltb-true}
 use Rattle.number.specs.Nine.{nine}
 use Rattle.number.proofs.Nine.{all-nine}
 use Rattle.lattice.specs.declared.Found.{Found}
-use Rattle.lattice.specs.Lattice.{Axis, X, Y, directions, E}
-use Rattle.lattice.specs.Lookup.{isRow, lookup, dirIndexOf, axisOf, mirror}
+use Rattle.lattice.specs.declared.Axis.{Axis}
+use Rattle.lattice.specs.declared.Axis.the-variants.{X, Y}
+use Rattle.lattice.specs.Lattice.{directions, E}
+use Rattle.lattice.specs.Lookup.{isRow, lookup, dirIndexOf, mirror}
 use Rattle.lattice.proofs.Tables.{mirror-small}
 use Rattle.lattice.proofs.mirror_index.Statement.{statement}
 use Rattle.lattice.proofs.mirror_index.Tie as tie
@@ -44,71 +46,46 @@ unfolding directions mirror lookup isRow
 mirror-table X = refl
 mirror-table Y = refl
 
--- the code's test of the axis
-not-x : (a : ℕ) → (a ≡ 0 → ⊥) → axisOf a ≡ Y
-not-x zero h = absurd (h refl)
-not-x (suc a) h = refl
-
 mirrored : (a : Axis) (i r : ℕ) → i < 9 → r ≡ looked a i → (r ≡ mirror a i) × (r < 9)
 mirrored a i r h e = let m = e ∙ all-nine (looked a) (mirror a) (mirror-table a) i h in (m, rw m (mirror-small a i h))
 
-mul-ex : tie.Need-mul-ex
-mul-ex c = search needs
-
-index-1-ex : tie.Need-index-1-ex
-index-1-ex c = search needs
-
-index-2-ex : tie.Need-index-2-ex
-index-2-ex c = search needs
-
-mul-ey : tie.Need-mul-ey
-mul-ey c = search needs
-
-index-1-ey : tie.Need-index-1-ey
-index-1-ey c = search needs
-
-index-2-ey : tie.Need-index-2-ey
-index-2-ey c = search needs
-
 sub-dir-index : tie.Need-sub-dir-index
 unfolding directions
-sub-dir-index c = negated-fits X (c .before .before .before .args .i) (c .before .before .before .pre)
-
-dir-index-requires : tie.Need-dir-index-requires
-dir-index-requires c κs = search needs
+sub-dir-index c = let s = c .before .before .before .before in negated-fits X (s .args .i) (s .pre)
 
 sub-dir-index-2 : tie.Need-sub-dir-index-2
 unfolding directions
-sub-dir-index-2 c = negated-fits Y (c .before .before .before .args .i) (c .before .before .before .pre)
-
-dir-index-requires-2 : tie.Need-dir-index-requires-2
-dir-index-requires-2 c κs = search needs
+sub-dir-index-2 c = let s = c .before .before .before .before in negated-fits Y (s .args .i) (s .pre)
 
 returns : tie.Need-returns
 unfolding directions
 returns c =
-    let s = c .before .before .before .before in
-    rw (c .before .if1 .taken) (mirrored X (s .args .i) _ (s .pre) (ap (λ (f : Found). f .direction) (c .dir-index .ensures)))
+    let told = c .before in
+    let s = told .before .before .before .before in
+    rw (told .enum-told .given .1) (mirrored X (s .args .i) _ (s .pre) (ap (λ (f : Found). f .direction) (c .dir-index .ensures)))
 
 returns-2 : tie.Need-returns-2
 unfolding directions
 returns-2 c =
-    let s = c .before .before .before .before in
-    rw (not-x (s .args .axis) (c .before .if1 .left)) (mirrored Y (s .args .i) _ (s .pre) (ap (λ (f : Found). f .direction) (c .dir-index2 .ensures)))
+    let told = c .before in
+    let s = told .before .before .before .before in
+    rw (told .enum-told2 .given .1) (mirrored Y (s .args .i) _ (s .pre) (ap (λ (f : Found). f .direction) (c .dir-index2 .ensures)))
 
 pub mirror-index-spec : {M : Type 1} → statement M
 mirror-index-spec =
     tie.close
     (tie.spec
-    mul-ex
-    index-1-ex
-    index-2-ex
-    mul-ey
-    index-1-ey
-    index-2-ey
+    (λ c. search needs)
+    (λ c. search needs)
+    (λ c. search needs)
+    (λ c. search needs)
+    (λ c. search needs)
+    (λ c. search needs)
+    (λ c. search needs)
     sub-dir-index
-    dir-index-requires
+    (λ c κs. search needs)
+    (λ c. search needs)
     sub-dir-index-2
-    dir-index-requires-2
+    (λ c κs. search needs)
     returns
     returns-2)

@@ -7,7 +7,7 @@ use Rattle.line.proofs.are_sides.Statement.{statement}
 use Rattle.line.proofs.are_sides.Tie as tie
 
 slice-aggregate-is-side : tie.Need-slice-aggregate-is-side
-slice-aggregate-is-side c = up-to _ _ (c .before .before .word .ensures .0)
+slice-aggregate-is-side c = up-to _ _ (c .before .before .until .ensures .0)
 
 returns : tie.Need-returns
 unfolding areSides
@@ -15,7 +15,7 @@ returns c =
     let first = c .before .before in
     rw (
       first .is-side .ensures,
-      first .before .before .before .word .ensures .1,
+      first .before .before .before .until .ensures .1,
       c .is-side2 .ensures,
       from-on,
       first .before .before .rest .ensures .1,

@@ -7,13 +7,13 @@ use Rattle.line.proofs.first_side.Statement.{statement}
 use Rattle.line.proofs.first_side.Tie as tie
 
 slice-aggregate-number : tie.Need-slice-aggregate-number
-slice-aggregate-number c = up-to _ _ (c .before .word .ensures .0)
+slice-aggregate-number c = up-to _ _ (c .before .until .ensures .0)
 
 number-requires : tie.Need-number-requires
-number-requires c κs = rw (c .before .word .ensures .1) (both-sides _ (c .before .before .before .pre) .0)
+number-requires c κs = rw (c .before .until .ensures .1) (both-sides _ (c .before .before .before .pre) .0)
 
 returns : tie.Need-returns
-returns c = rw (c .number .ensures, c .before .before .word .ensures .1)
+returns c = rw (c .number .ensures, c .before .before .until .ensures .1)
 
 pub first-side-spec : {M : Type 1} → statement M
 first-side-spec =

@@ -7,7 +7,7 @@ use Rattle.line.proofs.readable.Statement.{statement}
 use Rattle.line.proofs.readable.Tie as tie
 
 slice-aggregate-are-letters : tie.Need-slice-aggregate-are-letters
-slice-aggregate-are-letters c = up-to _ _ (c .before .before .word .ensures .0)
+slice-aggregate-are-letters c = up-to _ _ (c .before .before .until .ensures .0)
 
 returns : tie.Need-returns
 unfolding readable
@@ -15,7 +15,7 @@ returns c =
     let letters = c .before .before in
     rw (
       letters .are-letters .ensures,
-      letters .before .before .before .word .ensures .1,
+      letters .before .before .before .until .ensures .1,
       c .are-sides .ensures,
       from-on,
       letters .before .before .rest .ensures .1,

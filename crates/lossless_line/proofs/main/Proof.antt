@@ -6,10 +6,10 @@ use Rattle.lossless_line.proofs.main.Statement.{statement}
 use Rattle.lossless_line.proofs.main.Tie as tie
 
 array-share-prefix-text : tie.Need-array-share-prefix-text
-array-share-prefix-text c = counted _ _ (c .before .answer-to .ensures) .0
+array-share-prefix-text c = counted _ _ (c .before .reply .ensures) .0
 
 slice-aggregate-write-all : tie.Need-slice-aggregate-write-all
-slice-aggregate-write-all c = counted _ _ (c .before .before .answer-to .ensures) .1
+slice-aggregate-write-all c = counted _ _ (c .before .before .reply .ensures) .1
 
 pub main-spec : {M : Type 1} → statement M
 main-spec =

@@ -6,10 +6,10 @@ use Rattle.lossless_lines.proofs.ask.Statement.{statement}
 use Rattle.lossless_lines.proofs.ask.Tie as tie
 
 array-share-prefix-text : tie.Need-array-share-prefix-text
-array-share-prefix-text c = counted _ _ (c .before .answer-to .ensures) .0
+array-share-prefix-text c = counted _ _ (c .before .reply .ensures) .0
 
 slice-aggregate-write-all-3 : tie.Need-slice-aggregate-write-all-3
-slice-aggregate-write-all-3 c = counted _ _ (c .before .before .answer-to .ensures) .1
+slice-aggregate-write-all-3 c = counted _ _ (c .before .before .reply .ensures) .1
 
 pub ask-spec : {M : Type 1} → statement M
 ask-spec =

@@ -26,6 +26,9 @@ enum-told-3 c = search needs
 enum-known-face-2 : tie.Need-enum-known-face-2
 enum-known-face-2 c = search needs
 
+along-normal-requires : tie.Need-along-normal-requires
+along-normal-requires c κs = search needs
+
 not-finite-requires-3 : tie.Need-not-finite-requires-3
 not-finite-requires-3 c κs = search needs
 
@@ -56,7 +59,7 @@ returns-4 c = search needs
 
 returns-5 : tie.Need-returns-5
 unfolding faceBad
-returns-5 c = cc
+returns-5 c = let n = c .before .before in rw (c .not-finite4 .ensures, c .before .not-finite3 .ensures, n .along-normal .ensures, n .before .before .face2 .given .1)
 
 returns-6 : tie.Need-returns-6
 unfolding faceBad
@@ -73,6 +76,7 @@ face-bad-spec =
     not-finite-requires-2
     enum-told-3
     enum-known-face-2
+    along-normal-requires
     not-finite-requires-3
     not-finite-requires-4
     enum-known-face-3

@@ -1,188 +1,114 @@
--- `streaming::face` meets its contract: what each kind wrote along the line of cells is what its rule says.
--- Assumes nothing.
-use mathlib.Core.Path.{ap}
-use mathlib.Core.Bool.{false}
-use Prim.Native.Nat.{_*_}
+-- `streaming::face` meets its contract. The loop's invariant: the first k cells of the line hold what they take.
+use mathlib.Core.Path.{_≡_, refl, sym, ap, _∙_}
+use Prim.Native.Nat.{_*_, _-_, _≤_}
+use native.Mathlib.Omega.{arith}
 use borrow.Author.Needs.{needs}
-use Rattle.grid.proofs.Telling.{keeps-none}
-use Rattle.lattice.specs.Lookup.{axisOf}
-use Rattle.settings.specs.declared.Face.the-variants.{NoSlip, Symmetry}
-use Rattle.settings.specs.Tests.{drives}
-use Rattle.streaming.specs.Faces.{names, takes}
-use Rattle.streaming.specs.Lines.{sideOf, lineOf, spot, alone}
-use Rattle.streaming.proofs.Turned.{contradiction, not-back}
-use Rattle.streaming.proofs.Lines.{along-same}
-use Rattle.streaming.proofs.Faces.{still, at-rest, rests, settled}
+use Rattle.streaming.specs.declared.edge.Edge.{Edge}
+use Rattle.streaming.specs.Lines.{spot, takenAt, Along}
+use Rattle.streaming.proofs.Sides.{undriven}
+use Rattle.streaming.proofs.Lines.{holds-spot, along-none, along-more, along-all}
+use Rattle.streaming.proofs.Faces.{still, settled, not-yet}
 use Rattle.streaming.proofs.face.Statement.{statement}
 use Rattle.streaming.proofs.face.Tie as tie
 
-mul-n : tie.Need-mul-n
-mul-n c = search needs
+abbrev Inv-loop : tie.InvT-loop
+Inv-loop back post f₀ kind e line k₀ f k =
+    (k ≤ line .count) × Along f₀ f (e .cells) line (e .into) k (λ j. takenAt e kind post f₀ (spot line j))
 
-line-of-requires : tie.Need-line-of-requires
-line-of-requires c κs = search needs
+abbrev μ-loop : tie.MeasureT-loop
+μ-loop back post f₀ kind e line k₀ f k = line .count - k
 
-names-of-requires : tie.Need-names-of-requires
-names-of-requires c κs = search needs
+-- the edge has the grid's cells
+cells : (g : tie.After-edge-of Inv-loop μ-loop) → let s = g .before .before .before .before .before .before .args .s in g .edge-of .result .cells ≡ s .nx * s .ny
+cells g = ap (λ (e : Edge). e .cells) (g .edge-of .ensures .0)
 
-enum-told : tie.Need-enum-told
-enum-told c = search needs
-
-enum-told-2 : tie.Need-enum-told-2
-enum-told-2 c = search needs
-
-bounce-back-requires : tie.Need-bounce-back-requires
-bounce-back-requires c κs =
-    let m = c .before .before .before in
-    let s = m .before .before .before .before in
-    ((m .before .line-of .ensures .1, m .names-of .ensures .1), ((s .pre .0 .read, s .pre .0 .written), λ _. at-rest))
-
-enum-known-kind : tie.Need-enum-known-kind
-enum-known-kind c = search needs
-
-bounce-back-requires-2 : tie.Need-bounce-back-requires-2
-bounce-back-requires-2 c κs =
-    let known = c .before .before in
-    let m = known .before .before in
-    let s = m .before .before .before .before in
-    ((m .before .line-of .ensures .1, m .names-of .ensures .1), ((s .pre .0 .read, s .pre .0 .written), λ h. contradiction (ap drives (known .kind .given .1)) (s .pre .1 h)))
-
-enum-told-3 : tie.Need-enum-told-3
-enum-told-3 c = search needs
-
-specular-requires : tie.Need-specular-requires
-specular-requires c κs = search needs
-
-enum-known-kind-2 : tie.Need-enum-known-kind-2
-enum-known-kind-2 c = search needs
-
-velocity-requires : tie.Need-velocity-requires
-velocity-requires c κs = search needs
-
-zou-he-requires : tie.Need-zou-he-requires
-zou-he-requires c κs = search needs
-
-enum-known-kind-3 : tie.Need-enum-known-kind-3
-enum-known-kind-3 c = search needs
-
-zou-he-requires-2 : tie.Need-zou-he-requires-2
-zou-he-requires-2 c κs = search needs
-
-returns : tie.Need-returns
+returns : tie.Need-returns Inv-loop μ-loop
 returns c =
-    let m = c .before .before in
-    let a = m .before .before .before .before .args in (
-      rw (c .enum-told .given .1) (still (a .back) (axisOf (a .axis)) (sideOf (a .side)) (a .nx) (a .ny) _ (a .f .now)),
-      keeps-none _ _,
+    let p = c .before in
+    let g = p .before in
+    let a = g .before .before .before .args in
+    still (a .back) (a .axis) (a .side) _ (a .s .nx) (a .s .ny) _ (a .f .now) (rw (g .face-of .ensures) at (sym (p .is-periodic .ensures) ∙ c .if1 .taken))
+
+loop-holds : tie.Need-loop-holds Inv-loop μ-loop
+loop-holds c = (omega arith, along-none _ _ _ _ _)
+
+mul-c : tie.Need-mul-c Inv-loop μ-loop
+mul-c c =
+    let head = c .before .before .before in
+    let i = head .before .before .edge-of .ensures .1 .inside in
+    omega (arith, i .few, i .cell (head .loop .k) (omega arith))
+
+add-c : tie.Need-add-c Inv-loop μ-loop
+add-c c =
+    let head = c .before .before .before .before in
+    let i = head .before .before .edge-of .ensures .1 .inside in
+    omega (arith, i .few, i .cell (head .loop .k) (omega arith))
+
+taken-requires : tie.Need-taken-requires Inv-loop μ-loop
+taken-requires c κs =
+    let test = c .before .before .before .before in
+    let head = test .before .before in
+    let g = head .before .before in
+    let kind = g .before .before .before in
+    let s = kind .before .before .before in
+    let e = g .edge-of .ensures .1 in
+    let size = sym (ap (λ n. 9 * n) (cells g)) in (
+      e,
+      holds-spot _ (head .loop .k) (e .inside) (test .if2 .taken) (s .pre .0 .read ∙ size),
+      holds-spot _ (head .loop .k) (e .inside) (test .if2 .taken) (head .loop .inv .1 .size ∙ s .pre .0 .written ∙ size),
+      λ h. rw (kind .face-of .ensures) (undriven (s .args .s) (s .pre .1 (sym (ap (λ (e : Edge). e .back) (g .edge-of .ensures .0)) ∙ h)) (s .args .axis) (s .args .side)),
     )
 
-same-length : tie.Need-same-length
-same-length c = c .before .before .bounce-back .ensures .0 .size
+put-requires : tie.Need-put-requires Inv-loop μ-loop
+put-requires c κs =
+    let test = c .before .before .before .before .before in
+    let head = test .before .before in
+    let g = head .before .before in
+    let s = g .before .before .before .before .before .before in
+    let e = g .edge-of .ensures .1 in
+    (holds-spot _ (head .loop .k) (e .inside) (test .if2 .taken) (head .loop .inv .1 .size ∙ s .pre .0 .written ∙ sym (ap (λ n. 9 * n) (cells g))), e .into-apart)
 
-returns-2 : tie.Need-returns-2
-unfolding takes
+loop-again : tie.Need-loop-again Inv-loop μ-loop
+loop-again c =
+    let put = c .before .before in
+    let taken = put .before in
+    let test = taken .before .before .before .before .before in
+    let head = test .before .before in
+    let g = head .before .before in
+    let e = g .edge-of .ensures .1 in
+    let kind = g .before .before .before in
+    along-more _ _ _ _ _ _ (head .loop .k) _ _ (e .inside) (test .if2 .taken) (head .loop .inv .1) (put .put .ensures)
+    (taken .taken .ensures ∙ not-yet (g .edge-of .result) (kind .face-of .result) (kind .before .before .before .args .post .now) (head .loop .k) e (test .if2 .taken) (head .loop .inv .1))
+
+same-length : tie.Need-same-length Inv-loop μ-loop
+same-length c = c .before .before .loop .inv .1 .size
+
+returns-2 : tie.Need-returns-2 Inv-loop μ-loop
 returns-2 c =
-    let b = c .before .before in
-    let told = b .before .before in
-    let m = told .before .before in
-    let a = m .before .before .before .before .args in (
-      settled (a .back) (axisOf (a .axis)) (sideOf (a .side)) NoSlip (a .nx) (a .ny) (a .post .now) (a .f .now) _ (told .enum-told2 .given .1)
-          (along-same (λ j. rests (alone (a .back) (a .post .now) (a .nx * a .ny) (spot (lineOf (axisOf (a .axis)) (sideOf (a .side)) (a .nx) (a .ny)) j)) (names (axisOf (a .axis)) (sideOf (a .side)))) (rw (m .before .line-of .ensures .0, m .names-of .ensures .0) at (b .bounce-back .ensures .0))),
-      b .bounce-back .ensures .1,
-    )
-
-same-length-2 : tie.Need-same-length-2
-same-length-2 c = c .before .before .bounce-back2 .ensures .0 .size
-
-returns-3 : tie.Need-returns-3
-unfolding takes
-returns-3 c =
-    let b = c .before .before in
-    let known = b .before .before .before in
-    let m = known .before .before in
-    let a = m .before .before .before .before .args in (
-      settled (a .back) (axisOf (a .axis)) (sideOf (a .side)) _ (a .nx) (a .ny) (a .post .now) (a .f .now) _ (known .kind .given .1)
-          (rw (m .before .line-of .ensures .0, m .names-of .ensures .0) at (b .bounce-back2 .ensures .0)),
-      b .bounce-back2 .ensures .1,
-    )
-
-same-length-3 : tie.Need-same-length-3
-same-length-3 c = c .before .before .specular .ensures .0 .size
-
-returns-4 : tie.Need-returns-4
-unfolding takes
-returns-4 c =
-    let b = c .before .before in
-    let told = b .before .before in
-    let m = told .before .before in
-    let a = m .before .before .before .before .args in (
-      settled (a .back) (axisOf (a .axis)) (sideOf (a .side)) Symmetry (a .nx) (a .ny) (a .post .now) (a .f .now) _ (told .enum-told3 .given .1)
-          (rw (m .before .line-of .ensures .0, m .names-of .ensures .0) at (b .specular .ensures .0)),
-      b .specular .ensures .1,
-    )
-
-same-length-4 : tie.Need-same-length-4
-same-length-4 c = c .before .before .zou-he .ensures .0 .size
-
-returns-5 : tie.Need-returns-5
-unfolding takes
-returns-5 c =
-    let z = c .before .before in
-    let v = z .before .before in
-    let known = v .before .before in
-    let m = known .before .before in
-    let s = m .before .before .before .before in
-    let a = s .args in (
-      rw (not-back (a .back) (drives (a .kind)) (s .pre .1) (ap drives (known .kind2 .given .1)))
-          (settled false (axisOf (a .axis)) (sideOf (a .side)) _ (a .nx) (a .ny) (a .post .now) (a .f .now) _ (known .kind2 .given .1)
-          (rw (v .velocity .ensures, m .before .line-of .ensures .0, m .names-of .ensures .0) at (z .zou-he .ensures .0))),
-      z .zou-he .ensures .1,
-    )
-
-same-length-5 : tie.Need-same-length-5
-same-length-5 c = c .before .before .zou-he2 .ensures .0 .size
-
-returns-6 : tie.Need-returns-6
-unfolding takes
-returns-6 c =
-    let z = c .before .before in
-    let known = z .before .before .before in
-    let m = known .before .before in
-    let s = m .before .before .before .before in
-    let a = s .args in (
-      rw (not-back (a .back) (drives (a .kind)) (s .pre .1) (ap drives (known .kind3 .given .1)))
-          (settled false (axisOf (a .axis)) (sideOf (a .side)) _ (a .nx) (a .ny) (a .post .now) (a .f .now) _ (known .kind3 .given .1)
-          (rw (m .before .line-of .ensures .0, m .names-of .ensures .0) at (z .zou-he2 .ensures .0))),
-      z .zou-he2 .ensures .1,
-    )
+    let head = c .before .before in
+    let g = head .before .before in
+    let kind = g .before .before .before in
+    let a = kind .before .before .before .args in
+    settled (a .back) (a .axis) (a .side) (kind .face-of .result) (a .s .nx) (a .s .ny) (a .post .now) (a .f .now) _ (sym (kind .face-of .ensures))
+    (rw (g .edge-of .ensures .0) at (along-all {k = g .edge-of .result .line .count} (head .loop .inv .1) (omega arith)))
 
 pub face-spec : {M : Type 1} → statement M
 face-spec =
     tie.close
     (tie.spec
-    mul-n
-    line-of-requires
-    names-of-requires
-    enum-told
-    enum-told-2
-    bounce-back-requires
-    enum-known-kind
-    bounce-back-requires-2
-    enum-told-3
-    specular-requires
-    enum-known-kind-2
-    velocity-requires
-    zou-he-requires
-    enum-known-kind-3
-    zou-he-requires-2
+    Inv-loop
+    μ-loop
+    (λ c κs. search needs)
+    (λ c κs. search needs)
     returns
+    (λ c κs. search needs)
+    loop-holds
+    mul-c
+    add-c
+    taken-requires
+    put-requires
+    (λ c. omega arith)
+    (λ c. omega arith)
+    loop-again
     same-length
-    returns-2
-    same-length-2
-    returns-3
-    same-length-3
-    returns-4
-    same-length-4
-    returns-5
-    same-length-5
-    returns-6)
+    returns-2)

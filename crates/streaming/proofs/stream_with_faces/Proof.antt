@@ -1,5 +1,4 @@
 -- `streaming::stream_with_faces` meets its contract: a refusal leaves the populations, and else they are the next buffer.
--- Assumes nothing.
 use mathlib.Core.Path.{refl, sym, ap, _∙_}
 use mathlib.Core.List.{List}
 use Prim.Native.Nat.{ℕ}

@@ -1,0 +1,65 @@
+/* One call of the library on guarded buffers, and what is expected of it. */
+#ifndef CALL_H
+#define CALL_H
+
+#include "brothwagon.h"
+
+#define COUNT(rows) (sizeof(rows) / sizeof *(rows))
+
+/* The lent buffers. */
+enum { F, POST, U, TABLE, BUFFERS };
+
+/* The most entries of a buffer, the most words of an answer, and the words before and behind either that no call may touch. */
+enum { MOST = 64, ANSWERS = 4, GUARD = 8 };
+
+/* All that a call can be given. */
+typedef struct {
+    brothwagon_settings settings;
+    size_t length[BUFFERS];
+    size_t x, y, direction;
+    double tolerance;
+    uint64_t steps, check_every;
+    int32_t ex, ey;
+} Call;
+
+typedef struct {
+    const char *name;
+    uint32_t (*make)(const Call *call);
+    int lent[BUFFERS];     /* whether it is lent each buffer */
+    size_t numbers, words; /* of its answer: f64, or 64-bit words */
+    uint32_t tests[8];     /* the numbers that it tests, in the rules' order; then 0 */
+} Operation;
+
+extern const Operation INITIALIZE, DENSITY, VELOCITY, VELOCITY_FIELD, TOTAL_MASS, KINETIC_ENERGY, PLANE, STREAM_WITH_FACES,
+    LOSSLESS, REVERSE, STEP, RUN, RUN_TO_STEADY_STATE, DIR_INDEX;
+
+enum { OPERATIONS = 14 };
+extern const Operation *const ALL[OPERATIONS];
+
+/* Whether an operation tests a number. */
+int tests_for(const Operation *operation, uint32_t number);
+
+/* What the buffers hold before the next call, and what is expected of it: buffers and answer, as patterns. */
+extern double given[BUFFERS][MOST], wanted[BUFFERS][MOST];
+extern uint64_t wanted_answer[ANSWERS];
+
+/* The pattern of a number. */
+uint64_t pattern(double number);
+
+/* Begins a case, named as by printf: buffers of canaries, expected to stay; an answer of zeros; and a call on a grid of this
+ * size with buffers of the right lengths, Bgk with tau 2, no force, periodic faces, and zeros. */
+Call begin(uint64_t nx, uint64_t ny, const char *format, ...);
+
+/* Makes the call, and fails unless it answers this number and leaves what is wanted. */
+void check(const Operation *operation, const Call *call, uint32_t number);
+
+/* What was checked so far. */
+extern unsigned long calls_checked, numbers_checked;
+
+/* The checks: each function of the header where it is refused, and where it is done. */
+void check_refusals(void);
+void check_readings(void);
+void check_streaming(void);
+void check_steps(void);
+
+#endif
