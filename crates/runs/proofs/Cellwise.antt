@@ -13,7 +13,7 @@ use Rattle.number.specs.Number.{patternOf}
 use Rattle.number.specs.Nine.{at}
 use Rattle.grid.specs.Grid.{cellOf}
 use Rattle.grid.specs.Writes.{Put, Cells}
-use Rattle.grid.specs.Plain.{AllPlain}
+use Rattle.grid.specs.Finite.{AllFinite}
 use Rattle.grid.proofs.Fields.{is-buffer}
 use Rattle.grid.proofs.Writes.{cells-none, cell-more, cells-all}
 use Rattle.cell.specs.declared.bgk.BgkRates.{BgkRates}
@@ -55,7 +55,7 @@ pub ruleset passing = (pass-none, pass-more, pass-done, needs)
 
 -- ---- all cells, by the kind of the settings
 
-pub vouched : {plain : Bool} {f : List ℕ} → Vouched plain f → plain ≡ true → AllPlain f
+pub vouched : {finite : Bool} {f : List ℕ} → Vouched finite f → finite ≡ true → AllFinite f
 vouched v e = v .so e
 
 -- what a pass requires, from the tests before it

@@ -15,7 +15,7 @@ loop-again : tie.Need-loop-again Inv-loop μ-loop
 loop-again c =
     let cell = c .before .before .before .before in
     let test = cell .before .before in
-    pass-more (test .loop-test .taken) (test .before .loop .inv) (c .before .before .put-back .ensures) (cell .before .gather-plain .ensures) (cell .bgk-cell-forced .ensures)
+    pass-more (test .loop-test .taken) (test .before .loop .inv) (c .before .before .put-back .ensures) (cell .before .gather-finite .ensures) (cell .bgk-cell-forced .ensures)
 
 pub bgk-pass-forced-spec : {M : Type 1} → statement M
 bgk-pass-forced-spec =

@@ -15,7 +15,7 @@ loop-again : tie.Need-loop-again Inv-loop μ-loop
 loop-again c =
     let cell = c .before .before .before .before in
     let test = cell .before .before in
-    pass-more (test .loop-test .taken) (test .before .loop .inv) (c .before .before .put-back .ensures) (cell .before .gather-plain .ensures) (cell .trt-cell .ensures)
+    pass-more (test .loop-test .taken) (test .before .loop .inv) (c .before .before .put-back .ensures) (cell .before .gather-finite .ensures) (cell .trt-cell .ensures)
 
 pub trt-pass-spec : {M : Type 1} → statement M
 trt-pass-spec =
