@@ -22,15 +22,27 @@ fn step(case: &[u8], s: Settings) {
 }
 
 fn velocity(case: &[u8], s: Settings) {
-    show::number(b"velocity_refusal", case, settings::velocity_refusal(s, 54, 0, 0));
+    show::number(
+        b"velocity_refusal",
+        case,
+        settings::velocity_refusal(s, 54, 0, 0),
+    );
 }
 
 fn density(case: &[u8], s: Settings, x: usize, y: usize) {
-    show::number(b"density_refusal", case, settings::density_refusal(s, 54, x, y));
+    show::number(
+        b"density_refusal",
+        case,
+        settings::density_refusal(s, 54, x, y),
+    );
 }
 
 fn plane(case: &[u8], i: usize) {
-    show::number(b"plane_refusal", case, settings::plane_refusal(sized(3, 2), 54, i));
+    show::number(
+        b"plane_refusal",
+        case,
+        settings::plane_refusal(sized(3, 2), 54, i),
+    );
 }
 
 fn stream(case: &[u8], s: Settings) {
@@ -46,7 +58,11 @@ fn lossless(case: &[u8], s: Settings) {
 }
 
 fn reverse(case: &[u8], s: Settings) {
-    show::number(b"reverse_refusal", case, settings::reverse_refusal(s, 54, 54));
+    show::number(
+        b"reverse_refusal",
+        case,
+        settings::reverse_refusal(s, 54, 54),
+    );
 }
 
 fn steady(case: &[u8], tolerance: f64, steps: u64) {
@@ -182,7 +198,11 @@ fn steady_order() {
 }
 
 fn reversing(case: &[u8], s: Settings, post: usize) {
-    show::number(b"reverse_refusal", case, settings::reverse_refusal(s, 54, post));
+    show::number(
+        b"reverse_refusal",
+        case,
+        settings::reverse_refusal(s, 54, post),
+    );
 }
 
 fn reverse_order() {

@@ -1,4 +1,5 @@
 pub mod Ring
+pub mod Wrapped
 pub mod Turned
 pub mod Rows
 pub mod Directions

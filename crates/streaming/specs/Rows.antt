@@ -5,6 +5,7 @@ use mathlib.Core.List.{List}
 use Prim.Native.Nat.{ℕ, _+_, _*_, _/_, _%_, _≤_}
 use lib.ListN.{length, getD}
 use Rattle.grid.specs.Grid.{Grid, Field, Same}
+use Rattle.grid.specs.Writes.{Wrote}
 use Rattle.streaming.specs.Travel.{turn, streamed}
 use Rattle.streaming.specs.Turned.{seen}
 use Rattle.streaming.specs.declared.travel.Shift.{Shift}
@@ -33,6 +34,10 @@ turnedRow n s from p k = getD p (from + turn n s k) 0
 -- entry k of a plane that starts at base, each row turned by sx and the rows themselves by sy
 unfoldable pub turnedPlane : Shift → ℕ → List ℕ → ℕ → ℕ
 turnedPlane t base p k = getD p (base + (turn (t .nx) (t .sx) (k % t .nx) + turn (t .ny) (t .sy) (k / t .nx) * t .nx)) 0
+
+-- d has become e, with that plane copied into it
+abbrev pub PlaneCopied : Shift → ℕ → List ℕ → List ℕ → List ℕ → Type 0
+PlaneCopied t base src d e = Wrote d e base (t .nx * t .ny) (turnedPlane t base src)
 
 -- the plane stands in both buffers, and is turned once around at most
 pub record Reaches (t : Shift) (base : ℕ) (src dst : List ℕ) : Type 0 where

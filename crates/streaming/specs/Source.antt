@@ -1,4 +1,5 @@
--- Over Periodic, NoSlip and Symmetry every final entry is a copy: the post-collision entry that it comes from, and the final entry that one goes to.
+-- Over Periodic, NoSlip and Symmetry every final entry is a copy: the post-collision entry that it comes from, and the final
+-- entry that one goes to.
 use mathlib.Core.Bool.{cond}
 use Prim.Native.Nat.{ℕ, _<_}
 use Rattle.lattice.specs.declared.Axis.{Axis}

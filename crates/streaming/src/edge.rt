@@ -111,8 +111,8 @@ fn faced(back: bool, p: Planes) -> Planes
     }
 }
 
-// A face as the work at its cells needs it: which it is, which way the travel goes, the cells of the grid and its own, its
-// directions; the planes that come in, those of their opposites, and those of their mirrors.
+// A face as the work at its cells needs it: which it is, which way the travel goes, the cells of the grid and its own,
+// its directions; the planes that come in, those of their opposites, and those of their mirrors.
 pub struct Edge {
     pub axis: Axis,
     pub side: Side,

@@ -1,5 +1,5 @@
-// Streaming with six kinds of faces: `travel` streams, `edge` says where a face is, `entries` reads and writes what comes in there,
-// `walls` and `zou_he` compute it, and here the kinds and the four faces are put together.
+// Streaming with six kinds of faces: `travel` streams, `edge` says where a face is, `entries` reads and writes what comes
+// in there, `walls` and `zou_he` compute it, and here the kinds and the four faces are put together.
 mod edge;
 mod entries;
 mod travel;
@@ -18,7 +18,7 @@ ghost use mathlib.Core.Bool.{true, false};
 ghost use Prim.Native.Nat.{_*_};
 ghost use lib.ListN.{length};
 ghost use Rattle.grid.specs.Grid.{Grid, Holds};
-ghost use Rattle.settings.specs.Outcome.{Written};
+ghost use Rattle.settings.specs.Outcome.{outcome};
 ghost use Rattle.settings.specs.Tests.{faceOf, drives, driven};
 ghost use Rattle.streaming.specs.Turned.{carried};
 ghost use Rattle.streaming.specs.Rows.{Lent};
@@ -42,10 +42,11 @@ fn face_of(s: Settings, axis: Axis, side: Side) -> Face
     }
 }
 
-// What the three directions that come in at cell c take, kind by kind, from the post-collision buffer and from f before the face.
-// Only a face that drives nothing has a way back.
+// What the three directions that come in at cell c take, kind by kind, from the post-collision buffer and from f before
+// the face. Only a face that drives nothing has a way back.
 fn taken(e: Edge, kind: Face, c: usize, post: &[u64], f: &[u64]) -> Entries
-    requires { ⌜ Built e × Holds (now post) (e .cells) c × Holds (now f) (e .cells) c × (e .back ≡ true → drives kind ≡ false) ⌝ }
+    requires { ⌜ Built e × (e .back ≡ true → drives kind ≡ false) ⌝ }
+    requires { ⌜ Holds (now post) (e .cells) c × Holds (now f) (e .cells) c ⌝ }
     ensures { λ r. ⌜ r ≡ takenAt e kind (now (post .entry)) (now (f .entry)) c ⌝ }
 {
     match kind {
@@ -104,8 +105,8 @@ fn apply_boundaries(s: Settings, back: bool, post: &[u64], f: &mut [u64])
 
 // ---- what came in
 
-// What came in through a face: the raised patterns of its three planes along its cells, joined. A periodic face let nothing in that
-// streaming had not copied.
+// What came in through a face: the raised patterns of its three planes along its cells, joined. A periodic face let
+// nothing in that streaming had not copied.
 fn face_joined(s: Settings, axis: Axis, side: Side, back: bool, f: &[u64]) -> u64
     requires { ⌜ Grid (s .nx) (s .ny) × (length (now f) ≡ 9 * (s .nx * s .ny)) ⌝ }
     ensures { λ r. ⌜ r ≡ faceJoin back s axis side (now (f .entry)) ⌝ }
@@ -134,8 +135,8 @@ fn faces_joined(s: Settings, back: bool, f: &[u64]) -> u64
 
 // ---- streaming with faces
 
-// Streams post into f and applies the faces: forward for each step of a run, and turned round for the reverse. Answers the raised
-// patterns of what was streamed and of what came in, joined: clear only where every entry of f is finite.
+// Streams post into f and applies the faces: forward for each step of a run, and turned round for the reverse. Answers
+// the raised patterns of what was streamed and of what came in, joined: clear only where every entry of f is finite.
 pub fn carry(s: Settings, back: bool, post: &[u64], f: &mut [u64]) -> u64
     requires { ⌜ Lent (s .nx) (s .ny) (now post) (now f) × (back ≡ true → driven s ≡ false) ⌝ }
     ensures is { λ _. ⌜ now (f .exit) ≡ carried back s (now (post .entry)) ⌝ }
@@ -149,7 +150,7 @@ pub fn carry(s: Settings, back: bool, post: &[u64], f: &mut [u64]) -> u64
 
 // Reads the post-collision buffer and makes f the next populations. A refused call leaves f as it was.
 pub fn stream_with_faces(s: Settings, post: &[u64], f: &mut [u64]) -> u32
-    ensures { λ r. ⌜ _≡_ {A = Written} (record { number = r; buffer = now (f .exit) }) (streamedWithFaces s (now (post .entry)) (now (f .entry))) ⌝ }
+    ensures { λ r. ⌜ outcome r (now (f .exit)) ≡ streamedWithFaces s (now (post .entry)) (now (f .entry)) ⌝ }
 {
     let number = settings::stream_with_faces_refusal(s, post.len(), f.len());
     if number != 0 {

@@ -53,10 +53,11 @@ taken-requires c κs =
     let s = kind .before .before .before in
     let e = g .edge-of .ensures .1 in
     let size = sym (ap (λ n. 9 * n) (cells g)) in (
-      e,
-      holds-spot _ (head .loop .k) (e .inside) (test .if2 .taken) (s .pre .0 .read ∙ size),
-      holds-spot _ (head .loop .k) (e .inside) (test .if2 .taken) (head .loop .inv .1 .size ∙ s .pre .0 .written ∙ size),
-      λ h. rw (kind .face-of .ensures) (undriven (s .args .s) (s .pre .1 (sym (ap (λ (e : Edge). e .back) (g .edge-of .ensures .0)) ∙ h)) (s .args .axis) (s .args .side)),
+      (e, λ h. rw (kind .face-of .ensures) (undriven (s .args .s) (s .pre .1 (sym (ap (λ (e : Edge). e .back) (g .edge-of .ensures .0)) ∙ h)) (s .args .axis) (s .args .side))),
+      (
+        holds-spot _ (head .loop .k) (e .inside) (test .if2 .taken) (s .pre .0 .read ∙ size),
+        holds-spot _ (head .loop .k) (e .inside) (test .if2 .taken) (head .loop .inv .1 .size ∙ s .pre .0 .written ∙ size),
+      ),
     )
 
 put-requires : tie.Need-put-requires Inv-loop μ-loop

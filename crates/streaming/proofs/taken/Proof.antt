@@ -11,19 +11,19 @@ use Rattle.streaming.proofs.taken.Statement.{statement}
 use Rattle.streaming.proofs.taken.Tie as tie
 
 bounce-back-requires : tie.Need-bounce-back-requires
-bounce-back-requires c κs = let s = c .before .before .before .before in (s .pre .0, s .pre .1, λ _. at-rest)
+bounce-back-requires c κs = (search needs, search needs, λ _. at-rest)
 
 bounce-back-requires-2 : tie.Need-bounce-back-requires-2
 bounce-back-requires-2 c κs =
     let known = c .before in
     let s = known .before .before .before .before in
-    (s .pre .0, s .pre .1, λ h. contradiction (ap drives (known .kind .given .1)) (s .pre .3 h))
+    (s .pre .0 .0, s .pre .1 .0, λ h. contradiction (ap drives (known .kind .given .1)) (s .pre .0 .1 h))
 
 returns : tie.Need-returns
 unfolding takes
 returns c =
     let told = c .before in
-    rw (told .enum-told .given .1) (rw (told .before .before .before .before .pre .0 .into-of) at (c .entries-at .ensures))
+    rw (told .enum-told .given .1) (rw (told .before .before .before .before .pre .0 .0 .into-of) at (c .entries-at .ensures))
 
 returns-2 : tie.Need-returns-2
 unfolding takes
@@ -40,7 +40,7 @@ returns-4 : tie.Need-returns-4
 unfolding takes
 returns-4 c =
     let told = c .before in
-    rw (told .enum-told3 .given .1) (rw (told .before .before .before .before .pre .0 .mirrored-of) at (c .entries-at2 .ensures))
+    rw (told .enum-told3 .given .1) (rw (told .before .before .before .before .pre .0 .0 .mirrored-of) at (c .entries-at2 .ensures))
 
 returns-5 : tie.Need-returns-5
 unfolding takes zouHeAt cellOf
@@ -50,9 +50,9 @@ returns-5 c =
     let n = t .before in
     let known = n .before .before in
     let s = known .before .before .before .before in
-    let back = not-back (s .args .e .back) (drives (s .args .kind)) (s .pre .3) (ap drives (known .kind2 .given .1)) in
-    rw (back, known .kind2 .given .1, s .pre .0 .names-of)
-    (rw (g .gather .ensures, t .along-tangent .ensures, n .along-normal .ensures, s .pre .0 .names-of) at (c .zou-he .ensures))
+    let back = not-back (s .args .e .back) (drives (s .args .kind)) (s .pre .0 .1) (ap drives (known .kind2 .given .1)) in
+    rw (back, known .kind2 .given .1, s .pre .0 .0 .names-of)
+    (rw (g .gather .ensures, t .along-tangent .ensures, n .along-normal .ensures, s .pre .0 .0 .names-of) at (c .zou-he .ensures))
 
 returns-6 : tie.Need-returns-6
 unfolding takes zouHeAt cellOf
@@ -60,8 +60,8 @@ returns-6 c =
     let g = c .before in
     let known = g .before .before in
     let s = known .before .before .before .before in
-    let back = not-back (s .args .e .back) (drives (s .args .kind)) (s .pre .3) (ap drives (known .kind3 .given .1)) in
-    rw (back, known .kind3 .given .1, s .pre .0 .names-of) (rw (g .gather2 .ensures, s .pre .0 .names-of) at (c .zou-he2 .ensures))
+    let back = not-back (s .args .e .back) (drives (s .args .kind)) (s .pre .0 .1) (ap drives (known .kind3 .given .1)) in
+    rw (back, known .kind3 .given .1, s .pre .0 .0 .names-of) (rw (g .gather2 .ensures, s .pre .0 .0 .names-of) at (c .zou-he2 .ensures))
 
 pub taken-spec : {M : Type 1} → statement M
 taken-spec =

@@ -12,10 +12,10 @@ use Rattle.streaming.proofs.travel.plane.Statement.{statement}
 use Rattle.streaming.proofs.travel.plane.Tie as tie
 
 abbrev Inv-loop : tie.InvT-loop
-Inv-loop t base src dst₀ all₀ y₀ dst all y = (y ≤ t .ny) × Copied dst₀ dst base (y * t .nx) (turnedPlane t base src) all
+Inv-loop t base src dst₀ joined₀ y₀ dst joined y = (y ≤ t .ny) × Copied dst₀ dst base (y * t .nx) (turnedPlane t base src) joined
 
 abbrev μ-loop : tie.MeasureT-loop
-μ-loop t base src dst₀ all₀ y₀ dst all y = t .ny - y
+μ-loop t base src dst₀ joined₀ y₀ dst joined y = t .ny - y
 
 loop-holds : tie.Need-loop-holds Inv-loop μ-loop
 loop-holds c = (omega arith, (to-length (none _ _ _) (omega arith), joined-to-length _ (joined-none _) (omega arith)))
