@@ -39,9 +39,9 @@ module _ {collide : List Float → List Float → List Float → List Float} {fx
   pass-none = record { low = omega arith; cells = cells-none d n (entryBy collide fx fy f n) }
 
   -- one cell more: what was gathered, collided and put back
-  pub pass-more : {e g : List ℕ} {c : ℕ} {l v : List Float} → c < n → Passing collide fx fy n f d e c → Put e g n c (λ i. patternOf (at v i))
-      → l ≡ cellOf f n c → v ≡ cellBy collide l fx fy → Passing collide fx fy n f d g (c + 1)
-  pass-more {e} {g} {c} {l} {v} h w p q r =
+  pub pass-more : {e g : List ℕ} {c : ℕ} {l v : List Float} → Put e g n c (λ i. patternOf (at v i)) → Passing collide fx fy n f d e c → c < n
+      → v ≡ cellBy collide l fx fy → l ≡ cellOf f n c → Passing collide fx fy n f d g (c + 1)
+  pass-more {e} {g} {c} {l} {v} p w h r q =
       record {
         low = omega arith;
         cells = cell-more d e g n c (entryBy collide fx fy f n) (λ i. patternOf (at v i)) h (w .cells) p

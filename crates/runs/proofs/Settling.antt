@@ -112,6 +112,8 @@ module _ (s : Settings) (checks : Checks) (b : State) (u : List ℕ) where
   unfolding settling
   ran-on good news e = rw (good, ← news) e
 
+pub ruleset beginning = (ruined-first, ran-on, tested, needs)
+
 -- ---- the outcome of `run_to_steady_state`, where the code found the number n
 
 module _ (s : Settings) (tolerance : Float) (most every : ℕ) (f post u : List ℕ) {n : ℕ} (e : n ≡ refusal (Call.runToSteadyState s tolerance most (length f) (length post) (length u))) where

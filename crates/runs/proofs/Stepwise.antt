@@ -102,12 +102,14 @@ ran s k f post {n} {m} e h q =
     let z : m ≡ 0 = sym e ∙ h in rw z (λ i. left 0 (q i .f) (q i .post))
 
 -- what is known where they are not refused
-pub may-step : (s : Settings) (f post : List ℕ) → refusal (Call.step s (length f) (length post)) ≡ 0 → Ready s f post
-may-step s f post e =
-    let q = known (Call.step s (length f) (length post)) e in
+pub may-step : (s : Settings) (f post : List ℕ) {n : ℕ} → n ≡ refusal (Call.step s (length f) (length post)) → n ≡ 0 → Ready s f post
+may-step s f post e h =
+    let q = known (Call.step s (length f) (length post)) (sym e ∙ h) in
     record { grid = q .0; f-size = q .1 .0 .size; post-size = q .1 .1 .0 .size }
 
-pub may-run : (s : Settings) (n : ℕ) (f post : List ℕ) → refusal (Call.run s n (length f) (length post)) ≡ 0 → Ready s f post
-may-run s n f post e =
-    let q = known (Call.run s n (length f) (length post)) e in
+pub may-run : (s : Settings) (k : ℕ) (f post : List ℕ) {n : ℕ} → n ≡ refusal (Call.run s k (length f) (length post)) → n ≡ 0 → Ready s f post
+may-run s k f post e h =
+    let q = known (Call.run s k (length f) (length post)) (sym e ∙ h) in
     record { grid = q .0; f-size = q .1 .0 .size; post-size = q .1 .1 .0 .size }
+
+pub ruleset outcome = (kept, ran, needs)
