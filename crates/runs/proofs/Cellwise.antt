@@ -13,7 +13,7 @@ use Rattle.number.specs.Number.{patternOf}
 use Rattle.number.specs.Nine.{at}
 use Rattle.grid.specs.Grid.{cellOf}
 use Rattle.grid.specs.Writes.{Put, Cells}
-use Rattle.grid.specs.Plain.{AllPlain}
+use Rattle.grid.specs.Finite.{AllFinite}
 use Rattle.grid.proofs.Fields.{is-buffer}
 use Rattle.grid.proofs.Writes.{cells-none, cell-more, cells-all}
 use Rattle.cell.specs.declared.bgk.BgkRates.{BgkRates}
@@ -39,9 +39,9 @@ module _ {collide : List Float → List Float → List Float → List Float} {fx
   pass-none = record { low = omega arith; cells = cells-none d n (entryBy collide fx fy f n) }
 
   -- one cell more: what was gathered, collided and put back
-  pub pass-more : {e g : List ℕ} {c : ℕ} {l v : List Float} → c < n → Passing collide fx fy n f d e c → Put e g n c (λ i. patternOf (at v i))
-      → l ≡ cellOf f n c → v ≡ cellBy collide l fx fy → Passing collide fx fy n f d g (c + 1)
-  pass-more {e} {g} {c} {l} {v} h w p q r =
+  pub pass-more : {e g : List ℕ} {c : ℕ} {l v : List Float} → Put e g n c (λ i. patternOf (at v i)) → Passing collide fx fy n f d e c → c < n
+      → v ≡ cellBy collide l fx fy → l ≡ cellOf f n c → Passing collide fx fy n f d g (c + 1)
+  pass-more {e} {g} {c} {l} {v} p w h r q =
       record {
         low = omega arith;
         cells = cell-more d e g n c (entryBy collide fx fy f n) (λ i. patternOf (at v i)) h (w .cells) p
@@ -55,7 +55,7 @@ pub ruleset passing = (pass-none, pass-more, pass-done, needs)
 
 -- ---- all cells, by the kind of the settings
 
-pub vouched : {plain : Bool} {f : List ℕ} → Vouched plain f → plain ≡ true → AllPlain f
+pub vouched : {finite : Bool} {f : List ℕ} → Vouched finite f → finite ≡ true → AllFinite f
 vouched v e = v .so e
 
 -- what a pass requires, from the tests before it

@@ -21,7 +21,7 @@ use Rattle.runs.specs.declared.steady.Checks.{Checks}
 use Rattle.runs.specs.declared.steady.Check.{Check}
 use Rattle.runs.specs.declared.steady.Check.the-variants.{Bad, Settles, GoesOn}
 use Rattle.runs.specs.declared.steady.Steady.the-variants.{Refused, RanOut, Ruined}
-use Rattle.runs.specs.Passes.{AllReady, Vouched}
+use Rattle.runs.specs.Passes.{AllReady, Vouched, clearAfter}
 use Rattle.runs.specs.Steps.{State, state, oneStep, steps}
 use Rattle.runs.specs.Steady.{checksOf, badSnapshot, residualOf, checked, found, checkOf, SteadyRun, ended, verdict, onward, started, settling, steadyOf}
 use Rattle.runs.proofs.Stepwise.{Going, going-none, going-more}
@@ -56,8 +56,8 @@ infinite = refl
 -- ---- the run from the state b and the snapshot u₀, under way
 
 -- after k steps: the buffers are as after k steps, and what is still to come is the whole run's outcome
-pub record Underway (s : Settings) (checks : Checks) (b : State) (u₀ f post u : List ℕ) (r : Float) (plain : Bool) (k : ℕ) : Type 0 where
-  pub going : Going s (checks .«max_steps») b f post plain k
+pub record Underway (s : Settings) (checks : Checks) (b : State) (u₀ f post u : List ℕ) (r : Float) (finite : Bool) (k : ℕ) : Type 0 where
+  pub going : Going s (checks .«max_steps») b f post finite k
   pub u-size : length u ≡ 2 * (s .nx * s .ny)
   pub whole : onward s checks b (checks .«max_steps» - k) k u r ≡ started s checks b u₀
 
@@ -65,7 +65,7 @@ module _ (s : Settings) (checks : Checks) where
   abbrev most : ℕ
   most = checks .«max_steps»
 
-  pub begun : {f post u : List ℕ} {plain : Bool} → AllReady s f post u → Vouched plain f → Underway s checks (state f post) u f post u (c1 ⊘ c0) plain 0
+  pub begun : {f post u : List ℕ} {finite : Bool} → AllReady s f post u → Vouched finite f → Underway s checks (state f post) u f post u (c1 ⊘ c0) finite 0
   begun a v =
       let z : most - 0 ≡ most = omega arith in
       record { going = going-none (a .ready) v; u-size = a .u-size; whole = rw (z, infinite) }
@@ -77,7 +77,7 @@ module _ (s : Settings) (checks : Checks) where
   unrolled b m k u r now check = rw (← now, ← check)
 
   module _ {b : State} {u₀ : List ℕ} where
-    module _ {f post u : List ℕ} {r : Float} {plain : Bool} {k : ℕ} (way : Underway s checks b u₀ f post u r plain k) where
+    module _ {f post u : List ℕ} {r : Float} {finite : Bool} {k : ℕ} (way : Underway s checks b u₀ f post u r finite k) where
       pub ran-out : most ≤ k → ended (RanOut k r) (state f post) u ≡ started s checks b u₀
       unfolding onward
       ran-out h =
@@ -86,9 +86,9 @@ module _ (s : Settings) (checks : Checks) where
           ap (λ (b : State). ended (RanOut k r) b u) (way .going .reached) ∙ rw z at (way .whole)
 
       -- one step, and the check after it
-      module _ {f' post' u' : List ℕ} {plain' : Bool} {c : Check} (h : k < most) (step : state f' post' ≡ oneStep s f) (v : Vouched plain' f')
+      module _ {f' post' u' : List ℕ} {finite' : Bool} {c : Check} (h : k < most) (step : state f' post' ≡ oneStep s f) (v : finite' ≡ clearAfter s f)
           (check : found c u' ≡ checkOf s checks (k + 1) r f' u) where
-        stepped : Going s most b f' post' plain' (k + 1)
+        stepped : Going s most b f' post' finite' (k + 1)
         stepped = going-more h (way .going) step v
 
         -- what the check makes of the run is the whole run's outcome
@@ -97,7 +97,7 @@ module _ (s : Settings) (checks : Checks) where
             let m : most - k ≡ suc (most - suc k) = omega arith in
             rw (add-one k) (unrolled b (most - suc k) k u r (rw (add-one k) at (stepped .reached)) (rw (add-one k) at check) ∙ rw m at (way .whole))
 
-        pub on : {q : Float} → c ≡ GoesOn q → length u' ≡ length u → Underway s checks b u₀ f' post' u' q plain' (k + 1)
+        pub on : {q : Float} → c ≡ GoesOn q → length u' ≡ length u → Underway s checks b u₀ f' post' u' q finite' (k + 1)
         on e us = record { going = stepped; u-size = us ∙ way .u-size; whole = rw e at turn }
 
 -- ---- the whole run, where the first snapshot is bad and where it is not
@@ -111,6 +111,8 @@ module _ (s : Settings) (checks : Checks) (b : State) (u : List ℕ) where
       → o ≡ started s checks b new → o ≡ settling s checks b u
   unfolding settling
   ran-on good news e = rw (good, ← news) e
+
+pub ruleset beginning = (ruined-first, ran-on, tested, needs)
 
 -- ---- the outcome of `run_to_steady_state`, where the code found the number n
 

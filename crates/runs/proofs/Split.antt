@@ -57,7 +57,7 @@ module _ (s : Settings) (a b : ℕ) (f post : List ℕ) (few : a + b ≤ mostSte
       go : Dec (number ≡ 0) → runOf s (a + b) f post ≡ runOf s b (runOf s a f post .f) (runOf s a f post .post)
       go (yes z) =
           let x = steps s a (state f post) in
-          let r = may-run s a f post z in
+          let r = may-run s a f post refl z in
           let q = steps-ready s a (state f post) r in
           let fs : length f ≡ length (x .f) = r .f-size ∙ sym (q .f-size) in
           let ps : length post ≡ length (x .post) = r .post-size ∙ sym (q .post-size) in

@@ -1,19 +1,22 @@
 -- What the functions below the operations ask and leave.
 use mathlib.Core.Path.{_≡_}
-use mathlib.Core.Bool.{Bool, true}
+use mathlib.Core.Bool.{Bool, true, false}
 use mathlib.Core.List.{List}
 use Prim.Native.Nat.{ℕ, _+_, _*_, _≤_}
 use lib.ListN.{length, getD, set}
 use lib.Ieee.{Float}
 use Rattle.number.specs.Number.{valueOf, patternOf, magnitudeOf, largerOf, _⊖_}
+use Rattle.number.specs.Joined.{clearOf}
 use Rattle.number.specs.Nine.{at}
 use Rattle.grid.specs.Grid.{mostCells, Grid, cellOf}
 use Rattle.grid.specs.Writes.{Cells}
-use Rattle.grid.specs.Plain.{AllPlain}
+use Rattle.grid.specs.Finite.{AllFinite}
 use Rattle.cell.specs.declared.Moments.{Moments}
 use Rattle.cell.specs.Cell.{cellBy}
 use Rattle.settings.specs.declared.Settings.{Settings}
+use Rattle.streaming.specs.Lines.{carriedJoin}
 use Rattle.runs.specs.declared.snapshot.Maxima.{Maxima}
+use Rattle.runs.specs.Steps.{collidedBuffer}
 
 -- two buffers of n cells
 pub record Paired (n : ℕ) (f post : List ℕ) : Type 0 where
@@ -38,9 +41,13 @@ pub record Seen (s : Settings) (f u : List ℕ) : Type 0 where
   pub f-size : length f ≡ 9 * (s .nx * s .ny)
   pub u-size : length u ≡ 2 * (s .nx * s .ny)
 
--- `plain` is true only where every entry of f is plain
-pub record Vouched (plain : Bool) (f : List ℕ) : Type 0 where
-  pub so : plain ≡ true → AllPlain f
+-- `finite` is true only where every entry of f is finite
+pub record Vouched (finite : Bool) (f : List ℕ) : Type 0 where
+  pub so : finite ≡ true → AllFinite f
+
+-- what the bits that a step from f writes tell of the new populations
+abbrev pub clearAfter : Settings → List ℕ → Bool
+clearAfter s f = clearOf (carriedJoin false s (collidedBuffer s f))
 
 -- entry i of cell c after one of the three collisions
 abbrev pub entryBy : (List Float → List Float → List Float → List Float) → Float → Float → List ℕ → ℕ → ℕ → ℕ → ℕ

@@ -79,10 +79,10 @@ fn steady_steps(
 {
     let most = checks.max_steps;
     let mut residual = 1.0 / 0.0;
-    let mut plain = grid::all_plain(f);
+    let mut finite = number::clear(grid::joined(f));
     let mut k = 0;
     while k < most {
-        plain = advance(s, plain, f, post);
+        finite = advance(s, finite, f, post);
         k += 1;
         let found = check_after(s, checks, k, residual, f, u);
         match found {

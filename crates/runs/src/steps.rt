@@ -2,20 +2,20 @@
 use crate::passes::collide;
 use settings::Settings;
 ghost use mathlib.Core.Path.{_≡_};
-ghost use Rattle.runs.specs.Passes.{Ready, Vouched};
+ghost use Rattle.runs.specs.Passes.{Ready, Vouched, clearAfter};
 ghost use Rattle.runs.specs.Steps as Steps;
 ghost use Rattle.runs.specs.Steps.{state, oneStep, left, stepOf, runOf};
 
-// One step: afterwards post holds the post-collision state. `plain` where every entry of f is known to be plain; the answer is the
-// same of the new f, told from the bits that were written.
-pub fn advance(s: Settings, plain: bool, f: &mut [u64], post: &mut [u64]) -> bool
-    requires { ⌜ Ready s (now f) (now post) × Vouched plain (now f) ⌝ }
+// One step: afterwards post holds the post-collision state. `finite` where every entry of f is known to be finite; the answer is
+// true only where every entry of the new f is.
+pub fn advance(s: Settings, finite: bool, f: &mut [u64], post: &mut [u64]) -> bool
+    requires { ⌜ Ready s (now f) (now post) × Vouched finite (now f) ⌝ }
     ensures stepped { λ _. ⌜ state (now (f .exit)) (now (post .exit)) ≡ oneStep s (now (f .entry)) ⌝ }
-    ensures told { λ r. ⌜ Vouched r (now (f .exit)) ⌝ }
+    ensures told { λ r. ⌜ r ≡ clearAfter s (now (f .entry)) ⌝ }
 {
-    collide(s, plain, f, post);
+    collide(s, finite, f, post);
     let bits = streaming::carry(s, false, post, f);
-    number::plain(bits)
+    number::clear(bits)
 }
 
 fn advance_by(s: Settings, steps: u64, f: &mut [u64], post: &mut [u64])
@@ -23,10 +23,10 @@ fn advance_by(s: Settings, steps: u64, f: &mut [u64], post: &mut [u64])
     ensures { λ _. ⌜ state (now (f .exit)) (now (post .exit))
         ≡ Steps.steps s steps (state (now (f .entry)) (now (post .entry))) ⌝ }
 {
-    let mut plain = grid::all_plain(f);
+    let mut finite = number::clear(grid::joined(f));
     let mut k = 0;
     while k < steps {
-        plain = advance(s, plain, f, post);
+        finite = advance(s, finite, f, post);
         k += 1;
     }
 }

@@ -3,22 +3,20 @@ use Prim.Native.Nat.{_-_}
 use native.Mathlib.Omega.{arith}
 use borrow.Author.Needs.{needs}
 use Rattle.runs.specs.Steps.{state}
+use Rattle.runs.proofs.Stepwise.{first-told}
 use Rattle.runs.proofs.Settling.{Underway, begun, ran-out, turn, on}
 use Rattle.runs.proofs.steady.steady_steps.Statement.{statement}
 use Rattle.runs.proofs.steady.steady_steps.Tie as tie
 
 abbrev Inv-loop : tie.InvT-loop
-Inv-loop s checks f₀ post₀ u₀ most residual₀ plain₀ k₀ f post u residual plain k =
-    Underway s checks (state f₀ post₀) u₀ f post u residual plain k
+Inv-loop s checks f₀ post₀ u₀ most residual₀ finite₀ k₀ f post u residual finite k =
+    Underway s checks (state f₀ post₀) u₀ f post u residual finite k
 
 abbrev μ-loop : tie.MeasureT-loop
-μ-loop s checks f₀ post₀ u₀ most residual₀ plain₀ k₀ f post u residual plain k = most - k
+μ-loop s checks f₀ post₀ u₀ most residual₀ finite₀ k₀ f post u residual finite k = most - k
 
 loop-holds : tie.Need-loop-holds Inv-loop μ-loop
-loop-holds c = begun _ _ (c .before .before .before .before .before .pre) (record { so = c .all-plain .ensures })
-
-check-after-requires : tie.Need-check-after-requires Inv-loop μ-loop
-check-after-requires c κs = search needs
+loop-holds c = search (begun, first-told)
 
 returns : tie.Need-returns Inv-loop μ-loop
 returns c =
@@ -49,11 +47,11 @@ steady-steps-spec =
     tie.close
     (tie.spec
     Inv-loop μ-loop
-    (λ c κs. search needs)
+    (λ c κs. search needs) (λ c κs. search needs)
     loop-holds
     (λ c κs. search needs)
     (λ c. omega arith)
-    check-after-requires
+    (λ c κs. search needs)
     (λ c. search needs)
     (λ c. omega arith) (λ c. omega arith) (λ c. omega arith)
     returns

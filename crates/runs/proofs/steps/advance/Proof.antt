@@ -1,9 +1,9 @@
 -- `runs::steps::advance` meets its contract: what it collides into post it carries on into f, and the bits that it wrote tell of f.
-use mathlib.Core.Path.{refl, sym, _∙_}
+use mathlib.Core.Path.{refl}
 use native.Mathlib.Omega.{arith}
 use borrow.Author.Needs.{needs}
 use Rattle.streaming.proofs.Turned.{contradiction}
-use Rattle.runs.proofs.Stepwise.{one-step}
+use Rattle.runs.proofs.Stepwise.{one-step, told-after}
 use Rattle.runs.proofs.steps.advance.Statement.{statement}
 use Rattle.runs.proofs.steps.advance.Tie as tie
 
@@ -17,7 +17,7 @@ returns : tie.Need-returns
 returns c =
     let on = c .before .before .before in
     let collided = on .before .before .before .before .before in
-    (one-step _ _ (collided .collide .ensures) (on .carry .ensures .0), record { so = λ h. on .carry .ensures .1 (sym (c .plain .ensures) ∙ h) })
+    (one-step _ _ (collided .collide .ensures) (on .carry .ensures .0), told-after _ _ (collided .collide .ensures) (on .carry .ensures .1) (c .clear .ensures))
 
 pub advance-spec : {M : Type 1} → statement M
 advance-spec =

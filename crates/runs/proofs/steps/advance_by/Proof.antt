@@ -6,17 +6,14 @@ use Rattle.runs.proofs.steps.advance_by.Statement.{statement}
 use Rattle.runs.proofs.steps.advance_by.Tie as tie
 
 abbrev Inv-loop : tie.InvT-loop
-Inv-loop s n f₀ post₀ plain₀ k₀ f post plain k = Going s n (state f₀ post₀) f post plain k
-
-loop-holds : tie.Need-loop-holds Inv-loop (λ s n f₀ post₀ plain₀ k₀ f post plain k. n - k)
-loop-holds c = search (going, c .all-plain .ensures)
+Inv-loop s n f₀ post₀ finite₀ k₀ f post finite k = Going s n (state f₀ post₀) f post finite k
 
 pub advance-by-spec : {M : Type 1} → statement M
 advance-by-spec =
     tie.close
     (tie.spec
-    Inv-loop (λ s n f₀ post₀ plain₀ k₀ f post plain k. n - k)
-    (λ c κs. search going)
-    loop-holds
+    Inv-loop (λ s n f₀ post₀ finite₀ k₀ f post finite k. n - k)
+    (λ c κs. search going) (λ c κs. search going)
+    (λ c. search going)
     (λ c κs. search going)
     (λ c. search going) (λ c. search going) (λ c. search going) (λ c. search going) (λ c. search going) (λ c. search going))
