@@ -1,30 +1,36 @@
--- A cell's collision from its parts, once for the three kinds.
--- Assumes nothing.
-use mathlib.Core.Path.{_≡_}
-use mathlib.Core.Bool.{true, false}
+-- A cell from its parts: its momentum once for the two components, and its collision once for the three kinds.
+use mathlib.Core.Path.{_≡_, sym, _∙_}
+use mathlib.Core.Bool.{Bool, true, false}
 use mathlib.Core.List.{List}
+use Prim.Native.Nat.{ℕ}
 use lib.Ieee.{Float}
+use Rattle.number.specs.Number.{_⊗_}
+use Rattle.number.specs.Nine.{at, nine, sumTo}
 use Rattle.cell.specs.declared.Moments.{Moments}
-use Rattle.cell.specs.declared.Collision.{Collision}
-use Rattle.cell.specs.Cell.{collisionMoments, equilibriaOf, guoSources, forcedBy, noSource, sourcesOf, cellBy, collidedBy, collided}
+use Rattle.cell.specs.declared.trt.TrtRates.{TrtRates}
+use Rattle.cell.specs.Cell.{sumOfProducts, collisionMoments, equilibriaOf, guoSources, forcedBy, noSource, sourcesOf, trtRelaxed, trtSourced, trt, cellBy}
 
--- the source without a force, and with one
-pub source-unforced : (m : Moments) (fx fy : Float) → forcedBy fx fy ≡ false → noSource ≡ sourcesOf m fx fy
-unfolding sourcesOf
-source-unforced m fx fy e = rw e
+pub momentum-of : (e : ℕ → Float) (f : List Float) {l : List Float} {r : Float} → r ≡ sumOfProducts f l → l ≡ nine e → r ≡ sumTo (λ i. at f i ⊗ e i) 9
+unfolding sumOfProducts sumTo
+momentum-of e f p q = rw q at p
 
-pub source-forced : (m : Moments) (fx fy : Float) {src : List Float} → forcedBy fx fy ≡ true → src ≡ guoSources m fx fy → src ≡ sourcesOf m fx fy
-unfolding sourcesOf
-source-forced m fx fy e es = rw e es
+module _ (collide : List Float → List Float → List Float → List Float) (f : List Float) (fx fy : Float) {m : Moments} {feq r : List Float}
+    (em : m ≡ collisionMoments f fx fy) (ef : feq ≡ equilibriaOf m) where
+  -- without a force
+  pub cell-unforced : forcedBy fx fy ≡ false → r ≡ collide f feq noSource → r ≡ cellBy collide f fx fy
+  unfolding cellBy sourcesOf
+  cell-unforced e er = rw (e, ← em, ← ef) er
 
--- by any of the three collisions
-pub cell-from : (collide : List Float → List Float → List Float → List Float) (f : List Float) (fx fy : Float) {m : Moments} {feq src r : List Float}
-    → m ≡ collisionMoments f fx fy → feq ≡ equilibriaOf m → src ≡ sourcesOf m fx fy → r ≡ collide f feq src → r ≡ cellBy collide f fx fy
-unfolding cellBy
-cell-from collide f fx fy em ef es er = rw (← em, ← ef, ← es) er
+  -- with one
+  pub cell-forced : {src : List Float} → forcedBy fx fy ≡ true → src ≡ guoSources m fx fy → r ≡ collide f feq src → r ≡ cellBy collide f fx fy
+  unfolding cellBy sourcesOf
+  cell-forced e es er = rw (e, ← em, ← ef, ← es) er
 
--- by kind
-pub collided-from : {k k′ : Collision} (f : List Float) (tau fx fy : Float) {m : Moments} {feq src r : List Float}
-    → m ≡ collisionMoments f fx fy → feq ≡ equilibriaOf m → src ≡ sourcesOf m fx fy → k ≡ k′ → r ≡ collidedBy k′ tau f feq src → r ≡ collided k f tau fx fy
-unfolding collided
-collided-from {k} {k′} f tau fx fy em ef es ek er = rw ek (cell-from (collidedBy k′ tau) f fx fy em ef es er)
+-- what a test found
+pub tested : {t x b : Bool} → t ≡ x → t ≡ b → x ≡ b
+tested p q = sym p ∙ q
+
+-- TRT from its two halves
+pub both-halves : (rates : TrtRates) (f feq src : List Float) {kept r : List Float} → kept ≡ trtRelaxed rates f feq → r ≡ trtSourced rates kept src → r ≡ trt rates f feq src
+unfolding trt
+both-halves rates f feq src ek er = rw (← ek) er

@@ -1,5 +1,4 @@
 -- The arithmetic of one cell, in the order of the Rust: every operation rounded once, zero products kept, sums over i = 0..8 from +0.0.
--- Assumes nothing.
 use mathlib.Core.Bool.{Bool, cond}
 use mathlib.Core.List.{List, [], _∷_}
 use Prim.Native.Nat.{ℕ}
@@ -9,9 +8,9 @@ use Rattle.number.specs.Number.{valueOf, _⊕_, _⊖_, _⊗_, _⊘_, c0, c½, c
 use Rattle.number.specs.Nine.{at, nine, sumTo}
 use Rattle.lattice.specs.Lattice.{ex, ey, W, OPP, basisFloats, normFloats}
 use Rattle.cell.specs.declared.Moments.{Moments}
-use Rattle.cell.specs.declared.BgkRates.{BgkRates}
-use Rattle.cell.specs.declared.TrtRates.{TrtRates}
-use Rattle.cell.specs.declared.MrtRates.{MrtRates}
+use Rattle.cell.specs.declared.bgk.BgkRates.{BgkRates}
+use Rattle.cell.specs.declared.trt.TrtRates.{TrtRates}
+use Rattle.cell.specs.declared.mrt.MrtRates.{MrtRates}
 use Rattle.cell.specs.declared.Collision.{Collision}
 use Rattle.cell.specs.declared.Collision.the-variants.{Bgk, Mrt, Trt}
 
@@ -32,20 +31,20 @@ momentumY f = sumTo (λ i. at f i ⊗ ey i) 9
 -- ---- the two readings, for the force (fx, fy)
 
 -- 1e-12: below it a density is too small to divide by
-abbrev pub floor : Float
-floor = valueOf 0x3d71_9799_812d_ea11
+abbrev pub tiny : Float
+tiny = valueOf 0x3d71_9799_812d_ea11
 
--- what is read of a cell: at rest where the density is below the floor, negative densities included
+-- what is read of a cell: at rest where the density is below `tiny`, negative densities included
 unfoldable pub readMoments : List Float → Float → Float → Moments
 readMoments f fx fy =
     let rho = densityOf f in
-    cond (lt rho floor)
+    cond (lt rho tiny)
     (record { density = rho; ux = c0; uy = c0 })
     (record { density = rho; ux = (momentumX f ⊕ c½ ⊗ fx) ⊘ rho; uy = (momentumY f ⊕ c½ ⊗ fy) ⊘ rho })
 
--- collision's inverse of the density: 0 only where the magnitude is below the floor
+-- collision's inverse of the density: 0 only where the magnitude is below `tiny`
 unfoldable pub inverseOf : Float → Float
-inverseOf rho = cond (lt (magnitudeOf rho) floor) c0 (c1 ⊘ rho)
+inverseOf rho = cond (lt (magnitudeOf rho) tiny) c0 (c1 ⊘ rho)
 
 -- what collision works with
 unfoldable pub collisionMoments : List Float → Float → Float → Moments

@@ -4,3 +4,4 @@ pub mod Snapshots
 pub mod Settling
 pub mod One
 pub mod Tied
+pub mod Split

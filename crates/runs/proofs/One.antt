@@ -1,5 +1,4 @@
 -- Any two outcomes that a contract, as the checker reads it (`Post`), allows on the same input coincide: what is returned and every lent buffer.
--- Assumes nothing.
 use mathlib.Core.Path.{_≡_, sym, ap, _∙_}
 use Prim.Native.Nat.{ℕ}
 use contract.Lifetimes.{Lfts}
@@ -8,12 +7,12 @@ use denote.Triple.Clauses.{AtExit}
 use borrow.Fn.World.{ArgsD, ResD}
 use Rattle.runs.specs.Steps.{Stepped}
 use Rattle.runs.specs.Steady.{SteadyRun}
-use Rattle.runs.proofs.step
-use Rattle.runs.proofs.step.Reads as step-reads
-use Rattle.runs.proofs.run
-use Rattle.runs.proofs.run.Reads as run-reads
-use Rattle.runs.proofs.run_to_steady_state
-use Rattle.runs.proofs.run_to_steady_state.Reads as steady-reads
+use Rattle.runs.proofs.steps.step
+use Rattle.runs.proofs.steps.step.Reads as step-reads
+use Rattle.runs.proofs.steps.run
+use Rattle.runs.proofs.steps.run.Reads as run-reads
+use Rattle.runs.proofs.steady.run_to_steady_state
+use Rattle.runs.proofs.steady.run_to_steady_state.Reads as steady-reads
 
 pub all-stepped : {v w : Stepped} → v ≡ w → (v .number ≡ w .number) × (v .f ≡ w .f) × (v .post ≡ w .post)
 all-stepped e = (ap (λ (w : Stepped). w .number) e, ap (λ (w : Stepped). w .f) e, ap (λ (w : Stepped). w .post) e)

@@ -1,17 +1,22 @@
 -- What the functions below the operations ask and leave.
--- Assumes nothing.
 use mathlib.Core.Path.{_≡_}
+use mathlib.Core.Bool.{Bool, true, false}
 use mathlib.Core.List.{List}
 use Prim.Native.Nat.{ℕ, _+_, _*_, _≤_}
 use lib.ListN.{length, getD, set}
 use lib.Ieee.{Float}
 use Rattle.number.specs.Number.{valueOf, patternOf, magnitudeOf, largerOf, _⊖_}
+use Rattle.number.specs.Joined.{clearOf}
 use Rattle.number.specs.Nine.{at}
 use Rattle.grid.specs.Grid.{mostCells, Grid, cellOf}
+use Rattle.grid.specs.Writes.{Cells}
+use Rattle.grid.specs.Finite.{AllFinite}
 use Rattle.cell.specs.declared.Moments.{Moments}
 use Rattle.cell.specs.Cell.{cellBy}
 use Rattle.settings.specs.declared.Settings.{Settings}
-use Rattle.runs.specs.declared.Maxima.{Maxima}
+use Rattle.streaming.specs.Lines.{carriedJoin}
+use Rattle.runs.specs.declared.snapshot.Maxima.{Maxima}
+use Rattle.runs.specs.Steps.{collidedBuffer}
 
 -- two buffers of n cells
 pub record Paired (n : ℕ) (f post : List ℕ) : Type 0 where
@@ -36,9 +41,21 @@ pub record Seen (s : Settings) (f u : List ℕ) : Type 0 where
   pub f-size : length f ≡ 9 * (s .nx * s .ny)
   pub u-size : length u ≡ 2 * (s .nx * s .ny)
 
+-- `finite` is true only where every entry of f is finite
+pub record Vouched (finite : Bool) (f : List ℕ) : Type 0 where
+  pub so : finite ≡ true → AllFinite f
+
+-- what the bits that a step from f writes tell of the new populations
+abbrev pub clearAfter : Settings → List ℕ → Bool
+clearAfter s f = clearOf (carriedJoin false s (collidedBuffer s f))
+
 -- entry i of cell c after one of the three collisions
 abbrev pub entryBy : (List Float → List Float → List Float → List Float) → Float → Float → List ℕ → ℕ → ℕ → ℕ → ℕ
 entryBy collide fx fy f n c i = patternOf (at (cellBy collide (cellOf f n c) fx fy) i)
+
+-- what a pass over the n cells of f leaves of post: post', with every cell so collided
+abbrev pub Passed : (List Float → List Float → List Float → List Float) → Float → Float → ℕ → List ℕ → List ℕ → List ℕ → Type 0
+Passed collide fx fy n f post post' = Cells post post' n n (entryBy collide fx fy f n)
 
 -- the two maxima once a component is taken in, which was `last` in the last snapshot
 abbrev pub takenIn : Maxima → Float → Float → Maxima
@@ -52,8 +69,11 @@ pub record CellTaken : Type 0 where
   pub maxima : Maxima
   pub u : List ℕ
 
+abbrev pub taken : Maxima → List ℕ → CellTaken
+taken max u = record { maxima = max; u = u }
+
 abbrev pub cellTaken : Maxima → Moments → ℕ → List ℕ → CellTaken
-cellTaken max m c u = record {
-  maxima = takenIn (takenIn max (m .ux) (valueOf (getD u (2 * c) 0))) (m .uy) (valueOf (getD u (2 * c + 1) 0));
-  u = set (set u (2 * c) (patternOf (m .ux))) (2 * c + 1) (patternOf (m .uy));
-}
+cellTaken max m c u =
+    taken
+    (takenIn (takenIn max (m .ux) (valueOf (getD u (2 * c) 0))) (m .uy) (valueOf (getD u (2 * c + 1) 0)))
+    (set (set u (2 * c) (patternOf (m .ux))) (2 * c + 1) (patternOf (m .uy)))

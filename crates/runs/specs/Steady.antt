@@ -1,5 +1,4 @@
 -- The steady run.
--- Assumes nothing.
 use mathlib.Core.Bool.{Bool, true, false, cond, _||_}
 use mathlib.Core.List.{List}
 use Prim.Native.Nat.{ℕ, zero, suc, _*_, _%_}
@@ -12,11 +11,12 @@ use Rattle.settings.specs.Refusals as Refusals
 use Rattle.settings.specs.Refusals.{refusal}
 use Rattle.settings.specs.Outcome.{answer}
 use Rattle.readings.specs.Readings.{velocityAt, componentAt, velocityBuffer}
-use Rattle.runs.specs.declared.Check.{Check}
-use Rattle.runs.specs.declared.Check.the-variants.{Bad, Settles, GoesOn}
-use Rattle.runs.specs.declared.Steady.{Steady}
-use Rattle.runs.specs.declared.Steady.the-variants.{Refused, Settled, RanOut, Ruined}
-use Rattle.runs.specs.Steps.{State, steps}
+use Rattle.runs.specs.declared.steady.Check.{Check}
+use Rattle.runs.specs.declared.steady.Check.the-variants.{Bad, Settles, GoesOn}
+use Rattle.runs.specs.declared.steady.Checks.{Checks}
+use Rattle.runs.specs.declared.steady.Steady.{Steady}
+use Rattle.runs.specs.declared.steady.Steady.the-variants.{Refused, Settled, RanOut, Ruined}
+use Rattle.runs.specs.Steps.{State, state, steps}
 
 -- ---- the answer: the number and the values of each case
 
@@ -83,15 +83,18 @@ pub record Checked : Type 0 where
   pub check : Check
   pub u : List ℕ
 
+abbrev pub found : Check → List ℕ → Checked
+found check u = record { check = check; u = u }
+
 -- after a step that is not checked it goes on with the last residual r; a new snapshot is judged before any of it is written
-unfoldable pub checkOf : Settings → Float → ℕ → ℕ → Float → List ℕ → List ℕ → Checked
-checkOf s tolerance every k r f u =
+unfoldable pub checkOf : Settings → Checks → ℕ → Float → List ℕ → List ℕ → Checked
+checkOf s checks k r f u =
     let q = residualOf s f u in
     let new = velocityBuffer s f in
-    cond (checked every k)
-    (cond (badSnapshot s f) (record { check = Bad; u = u })
-    (cond (lt q tolerance) (record { check = Settles q; u = new }) (record { check = GoesOn q; u = new })))
-    (record { check = GoesOn r; u = u })
+    cond (checked (checks .«check_every») k)
+    (cond (badSnapshot s f) (found Bad u)
+    (cond (lt q (checks .tolerance)) (found (Settles q) new) (found (GoesOn q) new)))
+    (found (GoesOn r) u)
 
 -- ---- the run
 
@@ -114,23 +117,28 @@ verdict k now (Settles q) u on = ended (Settled k q) now u
 verdict k now (GoesOn q) u on = on u q
 
 -- after k steps from the state b, with m more allowed, the last snapshot u and the last residual r
-unfoldable pub onward : Settings → Float → ℕ → State → ℕ → ℕ → List ℕ → Float → SteadyRun
-onward s tolerance every b zero k u r = ended (RanOut k r) (steps s k b) u
-onward s tolerance every b (suc m) k u r =
+unfoldable pub onward : Settings → Checks → State → ℕ → ℕ → List ℕ → Float → SteadyRun
+onward s checks b zero k u r = ended (RanOut k r) (steps s k b) u
+onward s checks b (suc m) k u r =
     let now = steps s (suc k) b in
-    let c = checkOf s tolerance every (suc k) r (now .f) u in
-    verdict (suc k) now (c .check) (c .u) (onward s tolerance every b m (suc k))
+    let c = checkOf s checks (suc k) r (now .f) u in
+    verdict (suc k) now (c .check) (c .u) (onward s checks b m (suc k))
 
--- where nothing is refused: the first snapshot, if it is bad, is number 9 after 0 steps, with everything as it was;
--- else on from it, with no residual yet
-unfoldable pub settling : Settings → Float → ℕ → ℕ → State → List ℕ → SteadyRun
-settling s tolerance most every b u =
-    cond (badSnapshot s (b .f)) (ended (Ruined 0) b u)
-    (onward s tolerance every b most 0 (velocityBuffer s (b .f)) infinity)
+-- on from the first snapshot u, with no residual yet
+abbrev pub started : Settings → Checks → State → List ℕ → SteadyRun
+started s checks b u = onward s checks b (checks .«max_steps») 0 u infinity
+
+-- where nothing is refused: the first snapshot, if it is bad, is number 9 after 0 steps, with everything as it was; else on from it
+unfoldable pub settling : Settings → Checks → State → List ℕ → SteadyRun
+settling s checks b u =
+    cond (badSnapshot s (b .f)) (ended (Ruined 0) b u) (started s checks b (velocityBuffer s (b .f)))
+
+abbrev pub checksOf : Float → ℕ → ℕ → Checks
+checksOf tolerance most every = record { tolerance = tolerance; «max_steps» = most; «check_every» = every }
 
 -- THE STEADY RUN: refused, everything is as it was
 unfoldable pub steadyOf : Settings → Float → ℕ → ℕ → List ℕ → List ℕ → List ℕ → SteadyRun
 steadyOf s tolerance most every f post u =
     let number = refusal (Refusals.runToSteadyState s tolerance most (length f) (length post) (length u)) in
-    let b : State = record { f = f; post = post } in
-    answer number (settling s tolerance most every b u) (ended (Refused number) b u)
+    let b = state f post in
+    answer number (settling s (checksOf tolerance most every) b u) (ended (Refused number) b u)

@@ -1,5 +1,4 @@
 -- One step, n steps, and the outcomes of `step` and `run`.
--- Assumes nothing.
 use mathlib.Core.List.{List}
 use Prim.Native.Nat.{ℕ, zero, suc, _+_, _*_}
 use lib.ListN.{length}
@@ -26,16 +25,17 @@ pub record State : Type 0 where
   pub f : List ℕ
   pub post : List ℕ
 
--- ONE STEP: collide into the post-collision buffer, then stream with faces
-unfoldable pub oneStep : Settings → State → State
-oneStep s b =
-    let post = collidedBuffer s (b .f) in
-    record { f = nextBuffer s post; post = post }
+abbrev pub state : List ℕ → List ℕ → State
+state f post = record { f = f; post = post }
+
+-- ONE STEP from the populations f: collide into the post-collision buffer, then stream with faces
+unfoldable pub oneStep : Settings → List ℕ → State
+oneStep s f = let post = collidedBuffer s f in state (nextBuffer s post) post
 
 -- n steps: the step rule applied n times
 unfoldable pub steps : Settings → ℕ → State → State
 steps s zero b = b
-steps s (suc n) b = oneStep s (steps s n b)
+steps s (suc n) b = oneStep s (steps s n b .f)
 
 -- an outcome: the number, and what the two buffers hold
 pub record Stepped : Type 0 where
@@ -43,12 +43,15 @@ pub record Stepped : Type 0 where
   pub f : List ℕ
   pub post : List ℕ
 
+abbrev pub left : ℕ → List ℕ → List ℕ → Stepped
+left number f post = record { number = number; f = f; post = post }
+
 -- n steps where nothing is refused, and else both buffers as they were
 abbrev pub after : ℕ → Settings → ℕ → List ℕ → List ℕ → Stepped
 after number s n f post =
-    let b : State = record { f = f; post = post } in
+    let b = state f post in
     let e = answer number (steps s n b) b in
-    record { number = number; f = e .f; post = e .post }
+    left number (e .f) (e .post)
 
 abbrev pub stepOf : Settings → List ℕ → List ℕ → Stepped
 stepOf s f post = after (refusal (Refusals.step s (length f) (length post))) s 1 f post

@@ -1,0 +1,22 @@
+-- `cell::bgk::bgk_cell_any` meets its contract: the calls give its parts, with a force and without.
+use borrow.Author.Needs.{needs}
+use Rattle.cell.specs.Cell.{noSource}
+use Rattle.cell.proofs.Cells.{cell-forced, cell-unforced, tested}
+use Rattle.cell.proofs.bgk.bgk_cell_any.Statement.{statement}
+use Rattle.cell.proofs.bgk.bgk_cell_any.Tie as tie
+
+returns : tie.Need-returns
+returns c = search (cell-forced, tested)
+
+returns-2 : tie.Need-returns-2
+unfolding noSource
+returns-2 c = search (cell-unforced, tested)
+
+pub bgk-cell-any-spec : {M : Type 1} → statement M
+bgk-cell-any-spec =
+    tie.close
+    (tie.spec
+    (λ c κs. search needs) (λ c κs. search needs) (λ c κs. search needs) (λ c κs. search needs)
+    (λ c κs. search needs) (λ c κs. search needs) (λ c κs. search needs)
+    returns
+    returns-2)
