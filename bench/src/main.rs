@@ -116,12 +116,19 @@ fn each<T>(list: &str, value: impl Fn(&str) -> Option<T>) -> Option<Vec<T>> {
     list.split(',').map(value).collect()
 }
 
-/// The processor, by its own name where the system tells it, and how many of them there are.
+/// The processor, as the system names it, and how many cores there are.
 fn machine() -> String {
     let told = fs::read_to_string("/proc/cpuinfo").unwrap_or_default();
-    let name = told.lines().find_map(|line| line.strip_prefix("model name")?.split_once(": "));
+    let about = |name: &str| {
+        let mut values = told.lines().filter_map(|line| line.split_once(':'));
+        values.find_map(|(told, value)| (told.trim() == name).then(|| value.trim()))
+    };
     let cores = available_parallelism().map_or(1, |cores| cores.get());
-    format!("{}, {cores} cores", name.map_or(env::consts::ARCH, |(_, name)| name))
+    match (about("model name"), about("cpu family"), about("model")) {
+        // A virtual machine's name may say little; family and model say which processor it is.
+        (Some(name), Some(family), Some(model)) => format!("{name} (family {family}, model {model}), {cores} cores"),
+        (name, ..) => format!("{}, {cores} cores", name.unwrap_or(env::consts::ARCH)),
+    }
 }
 
 /// Times all lines of a plan, prints them, and writes what the plan asks for.
