@@ -1,4 +1,4 @@
-/* Tests levels/x86_64.c on made-up tables of one function: levels/check builds and runs it, on every level. Prints the level. */
+/* Tests levels/x86_64.c on made-up tables of one function, and prints the level: levels/check runs it on every level. */
 #include <pthread.h>
 #include <stdio.h>
 #include <stdlib.h>
@@ -56,11 +56,12 @@ static void test_pick(void) {
         const char *word;
         int best, taken, said;
     } rows[] = {
-        {0, LOWEST, LOWEST, 0},          {0, V3, V3, 0},          {0, V4, V4, 0},          {"", V4, V4, 0},
-        {"x86-64", LOWEST, LOWEST, 0},   {"x86-64", V3, LOWEST, 0}, {"x86-64", V4, LOWEST, 0},
-        {"x86-64-v3", LOWEST, LOWEST, 1}, {"x86-64-v3", V3, V3, 0},  {"x86-64-v3", V4, V3, 0},
-        {"x86-64-v4", LOWEST, LOWEST, 1}, {"x86-64-v4", V3, V3, 1},  {"x86-64-v4", V4, V4, 0},
-        {"x86-64-v2", V4, V4, 1},        {"x86-64-v", V3, V3, 1},   {"x86-64-v33", V4, V4, 1}, {"X86-64", LOWEST, LOWEST, 1},
+        {0, LOWEST, LOWEST, 0},           {0, V3, V3, 0},           {0, V4, V4, 0},
+        {"", LOWEST, LOWEST, 0},          {"", V3, V3, 0},          {"", V4, V4, 0},
+        {"x86-64", LOWEST, LOWEST, 0},    {"x86-64", V3, LOWEST, 0}, {"x86-64", V4, LOWEST, 0},
+        {"x86-64-v3", LOWEST, LOWEST, 1}, {"x86-64-v3", V3, V3, 0}, {"x86-64-v3", V4, V3, 0},
+        {"x86-64-v4", LOWEST, LOWEST, 1}, {"x86-64-v4", V3, V3, 1}, {"x86-64-v4", V4, V4, 0},
+        {"x86-64-v2", LOWEST, LOWEST, 1}, {"x86-64-v", V3, V3, 1},  {"x86-64-v33", V4, V4, 1},
     };
     for (size_t at = 0; at < sizeof rows / sizeof *rows; at++) {
         const char *why;

@@ -19,7 +19,7 @@ static const void *const *const tables[LEVELS] = {brothwagon_x86_64, brothwagon_
 static int level = LOWEST;
 __attribute__((used)) static const void *const *chosen = brothwagon_x86_64;
 
-/* A jump leaves every register but r11, and the stack, as the caller left them: so do all arguments, of any kind. */
+/* A jump leaves the stack, and every register but r11, as the caller left them: so each argument arrives, of whatever kind. */
 #define FUNCTION(name, place)                                                                                                  \
     __attribute__((naked)) void name(void) { __asm__("movq chosen(%rip), %r11\n\tjmpq *8*" #place "(%r11)"); }
 #include "functions.h"
@@ -43,16 +43,17 @@ static int all(unsigned bits, unsigned of) { return (bits & of) == of; }
 
 /* The highest level that the processor has, and whose registers the system keeps. */
 static int highest(void) {
-    const unsigned first = BIT(0) | BIT(9) | BIT(12) | BIT(13)          /* SSE3, SSSE3, FMA, CMPXCHG16B */
-                           | BIT(19) | BIT(20) | BIT(22) | BIT(23)      /* SSE4.1, SSE4.2, MOVBE, POPCNT */
-                           | BIT(27) | BIT(28) | BIT(29);               /* OSXSAVE, AVX, F16C */
-    const unsigned extended = BIT(0) | BIT(5);                          /* LAHF and SAHF, LZCNT */
-    const unsigned v3 = BIT(3) | BIT(5) | BIT(8);                       /* BMI1, AVX2, BMI2 */
+    const unsigned first = BIT(0) | BIT(9) | BIT(12) | BIT(13)           /* SSE3, SSSE3, FMA, CMPXCHG16B */
+                           | BIT(19) | BIT(20) | BIT(22) | BIT(23)       /* SSE4.1, SSE4.2, MOVBE, POPCNT */
+                           | BIT(27) | BIT(28) | BIT(29);                /* OSXSAVE, AVX, F16C */
+    const unsigned extended = BIT(0) | BIT(5);                           /* LAHF and SAHF, LZCNT */
+    const unsigned v3 = BIT(3) | BIT(5) | BIT(8);                        /* BMI1, AVX2, BMI2 */
     const unsigned v4 = BIT(16) | BIT(17) | BIT(28) | BIT(30) | BIT(31); /* AVX512F, DQ, CD, BW, VL */
+    /* What the system keeps: SSE and AVX; for zmm also the masks and the upper registers. */
     const unsigned ymm = BIT(1) | BIT(2), zmm = ymm | BIT(5) | BIT(6) | BIT(7);
     if (cpuid(0).a < 7 || cpuid(0x80000000).a < 0x80000001) return LOWEST;
     if (!all(cpuid(1).c, first) || !all(cpuid(0x80000001).c, extended) || !all(cpuid(7).b, v3)) return LOWEST;
-    unsigned kept, above; /* OSXSAVE says that xgetbv is there */
+    unsigned kept, above; /* OSXSAVE, tested above, says that xgetbv is there */
     __asm__("xgetbv" : "=a"(kept), "=d"(above) : "c"(0));
     if (!all(kept, ymm)) return LOWEST;
     return all(cpuid(7).b, v4) && all(kept, zmm) ? V4 : V3;

@@ -22,19 +22,21 @@ const HELP: &str = "\
 bench/run [SOURCE] [--quick] [--seconds S] [--sides N,..] [--kinds KIND,..] [--densities N,..] [--machine NAME] [--svg FILE]
           [--page FILE]
 
-Times the port against the Rust of SOURCE (../shared/docs/src by default), built for release: closed boxes of 240, 256, 512 and 1024
-cells a side, from a start at density 1 and one at density 10, with Trt (magic number 3/16), Bgk and Mrt, each without and with a
-force. Side by side stand the Rust, the Rust built for this very processor (-C target-cpu=native), the port on every level that the
-machine has, and a plain copy: of the populations to the other buffer and back, the bytes that a step at least reads and writes.
+Times the port against the Rust of SOURCE (../shared/docs/src by default), built for release: closed boxes of 240, 256, 512
+and 1024 cells a side, from a start at density 1 and one at density 10, with Trt (magic number 3/16), Bgk and Mrt, each
+without and with a force. Side by side stand the Rust, the Rust built for this very processor (-C target-cpu=native), the
+port on every level that the machine has, and a plain copy: of the populations to the other buffer and back, the bytes that
+a step at least reads and writes.
 
-Each is a process of its own. They take the same steps in ten turns, one after the other in each turn, and the shortest turn of each
-counts. The Rust's turns take S seconds together (4; --quick: three turns, 0.3). All must end alike, bit for bit. The table has the
-milliseconds of a step of the Rust, and for the others the part of the Rust's time that they take; then the part of the highest
-level's time that the copy takes: from a half on, memory is what limits that line, below it the arithmetic.
+Each is a process of its own. They take the same steps in twenty turns, one after the other in each turn, and the shortest
+turn of each counts. The Rust's turns take S seconds together (4; --quick: three turns, 0.3). All must end alike, bit for
+bit. The table has the milliseconds of a step of the Rust, and for the others the part of the Rust's time that they take;
+then the part of the highest level's time that the copy takes: from a half on, memory is what limits that line, below it the
+arithmetic.
 
---sides, --kinds (trt, bgk, mrt) and --densities narrow it. --svg draws the table; --page puts it, in Markdown, between the lines
-`<!-- measured -->` and `<!-- end of measured -->` of FILE. --machine is the name that both give the machine.
-Exit status: 0 done, 1 the ends differ or a worker failed, 2 the words are not understood.";
+--sides, --kinds (trt, bgk, mrt) and --densities narrow it. --svg draws the table; --page puts it, in Markdown, between the
+lines `<!-- measured -->` and `<!-- end of measured -->` of FILE. --machine is the name that both give the machine. Exit
+status: 0 done, 1 the ends differ or a worker failed, 2 the words are not understood.";
 
 const FROM: &str = "<!-- measured -->\n";
 const TO: &str = "<!-- end of measured -->\n";
@@ -80,7 +82,7 @@ fn main() -> ExitCode {
 fn plan(words: &[&str]) -> Option<Plan> {
     let mut plan = Plan {
         seconds: 4.0,
-        turns: 10,
+        turns: 20,
         sides: vec![240, 256, 512, 1024],
         kinds: (0..KINDS.len()).collect(),
         densities: vec![1, 10],
@@ -114,12 +116,19 @@ fn each<T>(list: &str, value: impl Fn(&str) -> Option<T>) -> Option<Vec<T>> {
     list.split(',').map(value).collect()
 }
 
-/// The processor, by its own name where the system tells it, and how many of them there are.
+/// The processor, as the system names it, and how many cores there are.
 fn machine() -> String {
     let told = fs::read_to_string("/proc/cpuinfo").unwrap_or_default();
-    let name = told.lines().find_map(|line| line.strip_prefix("model name")?.split_once(": "));
+    let about = |name: &str| {
+        let mut values = told.lines().filter_map(|line| line.split_once(':'));
+        values.find_map(|(told, value)| (told.trim() == name).then(|| value.trim()))
+    };
     let cores = available_parallelism().map_or(1, |cores| cores.get());
-    format!("{}, {cores} cores", name.map_or(env::consts::ARCH, |(_, name)| name))
+    match (about("model name"), about("cpu family"), about("model")) {
+        // A virtual machine's name may say little; family and model say which processor it is.
+        (Some(name), Some(family), Some(model)) => format!("{name} (family {family}, model {model}), {cores} cores"),
+        (name, ..) => format!("{}, {cores} cores", name.unwrap_or(env::consts::ARCH)),
+    }
 }
 
 /// Times all lines of a plan, prints them, and writes what the plan asks for.

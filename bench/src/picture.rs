@@ -98,7 +98,7 @@ fn legend(svg: &mut String, report: &Report) {
             _ => disc(svg, x + 5.0, y, colour(report, runner)),
         }
         text(svg, x + 16.0, y + 4.0, "", &said);
-        x += 34.0 + 6.1 * said.len() as f64;
+        x += 30.0 + 6.0 * said.len() as f64;
     }
 }
 

@@ -26,18 +26,18 @@ compare/run [SOURCE] --studies [--whole]
 compare/run [SOURCE] --differences
 compare/run [SOURCE] .. --levels
 
-Compares the proved library with the Rust of SOURCE (../shared/docs/src by default), through the C interface, on N made-up cases
-(1,000,000; --quick: 100,000). Each case is one call: its number, its answers and every entry of every lent buffer are compared,
-and so are refused calls, by the table of the rules. --only compares one case of the list that the seed starts, and shows it.
-The first difference that is not listed ends it, with the smallest case found that still differs, and exit status 1.
---studies runs each study of the repository for 20 steps instead, or for all its steps (--whole), prints the fingerprint that the
-Rust gives it, and ends with status 1 where the library gives another, or where a study is not physical: a speed of 0.3 or more, a
-number that is not finite, or a mass that drifts without inlet or outlet. --differences asks both what docs/DIFFERENCES.md records,
-and ends with status 1 where either answers otherwise.
+Compares the proved library with the Rust of SOURCE (../shared/docs/src by default), through the C interface, on N made-up
+cases (1,000,000; --quick: 100,000). Each case is one call: its number, its answers and every entry of every lent buffer are
+compared, and so are refused calls, by the table of the rules. --only compares one case of the list that the seed starts,
+and shows it. The first difference that is not listed ends it, with the smallest case found that still differs, and exit
+status 1. --studies runs each study of the repository for 20 steps instead, or for all its steps (--whole), prints the
+fingerprint that the Rust gives it, and ends with status 1 where the library gives another, or where a study is not
+physical: a speed of 0.3 or more, a number that is not finite, or a mass that drifts without inlet or outlet. --differences
+asks both what docs/DIFFERENCES.md records, and ends with status 1 where either answers otherwise.
 
-The library runs on the highest level of the processor that the machine has, or on the one that BROTHWAGON_LEVEL in the environment
-names. --levels, with any of the above, compares on each in turn, from the lowest. Status 2: the words are not understood, or the
-machine lacks the level.";
+The library runs on the highest level of the processor that the machine has, or on the one that BROTHWAGON_LEVEL in the
+environment names. --levels, with any of the above, compares on each in turn, from the lowest. Status 2: the words are not
+understood, or the machine lacks the level.";
 
 /// What to compare.
 struct Plan {

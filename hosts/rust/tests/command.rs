@@ -59,7 +59,7 @@ fn a_run_of_no_steps_leaves_the_start_or_is_refused() {
         let made = study("no-steps", &format!("sides 2 2\nsteps 0\n{line}\n"));
         let (status, said) = failed(&format!("run {made}"));
         assert_eq!(status, Some(1), "{line}");
-        assert!(said.starts_with(&format!("brothwagon: refused with number {number}: ")), "{line}: {said}");
+        assert!(said.contains(&format!("no-steps.study: refused with number {number}: ")), "{line}: {said}");
     }
 }
 
@@ -81,7 +81,7 @@ fn a_steady_run_settles_runs_out_or_is_refused() {
     let many = study("many", &format!("{tube}steps 1000001\n"));
     let (status, said) = failed(&format!("steady {many}"));
     assert_eq!(status, Some(1));
-    assert!(said.starts_with("brothwagon: refused with number 10: "), "{said}");
+    assert!(said.contains("many.study: refused with number 10: "), "{said}");
 }
 
 #[test]
@@ -91,7 +91,7 @@ fn the_lossless_question_is_answered_or_refused() {
     assert_eq!(out(&format!("lossless {}", study("lossy", lossy))), "lossy 2 0 5\n");
     let (status, said) = failed("lossless STUDIES/cavity.study");
     assert_eq!(status, Some(1));
-    assert!(said.starts_with("brothwagon: refused with number 7: the lossless question"), "{said}");
+    assert!(said.contains("cavity.study: refused with number 7: the lossless question"), "{said}");
 }
 
 #[test]

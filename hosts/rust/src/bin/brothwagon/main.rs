@@ -49,14 +49,14 @@ Exit status: 0 done, 1 refused, 2 the command or the study is not understood, 3 
 enum Failure {
     /// The command or the study file is not understood.
     Unreadable(String),
-    Refused(Refusal),
+    Refused(String),
     /// The answer cannot be written.
     Unwritten(io::Error),
 }
 
 impl From<Refusal> for Failure {
     fn from(refusal: Refusal) -> Failure {
-        Failure::Refused(refusal)
+        Failure::Refused(refusal.to_string())
     }
 }
 
@@ -70,7 +70,7 @@ fn main() -> ExitCode {
     let mut out = stdout().lock();
     match words().and_then(|words| command(&words, &mut out)).and_then(|()| Ok(out.flush()?)) {
         Ok(()) => ExitCode::SUCCESS,
-        Err(Failure::Refused(refusal)) => failed(refusal, 1),
+        Err(Failure::Refused(why)) => failed(why, 1),
         Err(Failure::Unreadable(why)) => failed(why, 2),
         // A reader that has seen enough.
         Err(Failure::Unwritten(why)) if why.kind() == ErrorKind::BrokenPipe => ExitCode::SUCCESS,
@@ -93,23 +93,28 @@ fn words() -> Result<Vec<String>, Failure> {
 fn command(words: &[String], out: &mut impl Write) -> Result<(), Failure> {
     let words: Vec<&str> = words.iter().map(String::as_str).collect();
     match words[..] {
-        ["run", path] => run(path, read(path)?, out),
+        ["run", path] => with(path, |file| run(path, file, out)),
         ["run", path, "--steps", steps] | ["run", "--steps", steps, path] => {
             let steps =
                 steps.parse().map_err(|_| Failure::Unreadable(format!("--steps takes a whole number, not `{steps}`")))?;
-            run(path, StudyFile { steps, ..read(path)? }, out)
+            with(path, |file| run(path, StudyFile { steps, ..file }, out))
         }
-        ["steady", path] => steady(path, read(path)?, out),
-        ["lossless", path] => lossless(read(path)?, out),
+        ["steady", path] => with(path, |file| steady(path, file, out)),
+        ["lossless", path] => with(path, |file| lossless(file, out)),
         ["version" | "--version" | "-V"] => version(out),
         [] | ["help" | "--help" | "-h"] => Ok(writeln!(out, "{HELP}")?),
         _ => Err(Failure::Unreadable(format!("`{}` is not understood; brothwagon --help lists the commands", words.join(" ")))),
     }
 }
 
-fn read(path: &str) -> Result<StudyFile, Failure> {
+/// Reads a study file and does this with it. What goes wrong is said with the file's path.
+fn with(path: &str, act: impl FnOnce(StudyFile) -> Result<(), Failure>) -> Result<(), Failure> {
     let text = fs::read_to_string(path).map_err(|why| Failure::Unreadable(format!("{path}: {why}")))?;
-    StudyFile::read(&text).map_err(|wrong| Failure::Unreadable(format!("{path}: {wrong}")))
+    let file = StudyFile::read(&text).map_err(|wrong| Failure::Unreadable(format!("{path}: {wrong}")))?;
+    act(file).map_err(|failure| match failure {
+        Failure::Refused(why) => Failure::Refused(format!("{path}: {why}")),
+        other => other,
+    })
 }
 
 fn run(path: &str, file: StudyFile, out: &mut impl Write) -> Result<(), Failure> {
