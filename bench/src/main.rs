@@ -1,96 +1,205 @@
-//! Times the proved library against the Rust that it carries over, on the same start, and checks that both end alike.
+//! Times the port, on each of its levels, against the Rust that it carries over, and checks that all end alike.
 
-use brothwagon::{Collision, Face, MAGIC_BOUNCE_BACK, Settings, ffi};
+mod picture;
+mod runner;
+mod study;
+mod table;
+mod worker;
+
+use runner::{Runner, ends_apart};
+use source::levels::levels;
 use std::env;
+use std::fs;
+use std::io;
+use std::path::PathBuf;
 use std::process::ExitCode;
-use std::time::{Duration, Instant};
+use std::thread::available_parallelism;
+use std::time::Duration;
+use study::{KINDS, Study};
+use table::{Line, Report};
 
 const HELP: &str = "\
-bench/run [SOURCE] [--steps N] [--quick]
+bench/run [SOURCE] [--quick] [--seconds S] [--sides N,..] [--kinds KIND,..] [--densities N,..] [--machine NAME] [--svg FILE]
+          [--page FILE]
 
-Times the proved library against the Rust of SOURCE (../shared/docs/src by default), built for release, on closed boxes of 240 by
-240 and 256 by 256, with Trt (magic number 3/16), Bgk and Mrt, without and with a force. Both take N steps (1,000; --quick: 50;
-a multiple of 10) in turns of a tenth, and each one's shortest turn counts. Both must end alike, bit for bit. The last column is
-the part of the Rust's time that the port takes.";
+Times the port against the Rust of SOURCE (../shared/docs/src by default), built for release: closed boxes of 240, 256, 512 and 1024
+cells a side, from a start at density 1 and one at density 10, with Trt (magic number 3/16), Bgk and Mrt, each without and with a
+force. Side by side stand the Rust, the Rust built for this very processor (-C target-cpu=native), the port on every level that the
+machine has, and a plain copy: of the populations to the other buffer and back, the bytes that a step at least reads and writes.
 
-const TURNS: u64 = 10;
+Each is a process of its own. They take the same steps in ten turns, one after the other in each turn, and the shortest turn of each
+counts. The Rust's turns take S seconds together (4; --quick: three turns, 0.3). All must end alike, bit for bit. The table has the
+milliseconds of a step of the Rust, and for the others the part of the Rust's time that they take; then the part of the highest
+level's time that the copy takes: from a half on, memory is what limits that line, below it the arithmetic.
+
+--sides, --kinds (trt, bgk, mrt) and --densities narrow it. --svg draws the table; --page puts it, in Markdown, between the lines
+`<!-- measured -->` and `<!-- end of measured -->` of FILE. --machine is the name that both give the machine.
+Exit status: 0 done, 1 the ends differ or a worker failed, 2 the words are not understood.";
+
+const FROM: &str = "<!-- measured -->\n";
+const TO: &str = "<!-- end of measured -->\n";
+
+/// What to time.
+struct Plan {
+    seconds: f64,
+    turns: u32,
+    sides: Vec<usize>,
+    kinds: Vec<usize>,
+    densities: Vec<u32>,
+    machine: String,
+    svg: Option<PathBuf>,
+    page: Option<PathBuf>,
+}
 
 fn main() -> ExitCode {
     let words: Vec<String> = env::args().skip(1).collect();
     let words: Vec<&str> = words.iter().map(String::as_str).collect();
-    let steps = match words[..] {
-        [] => Some(1000),
-        ["--quick"] => Some(50),
-        ["--steps", steps] => steps.parse().ok().filter(|&steps: &u64| steps > 0 && steps.is_multiple_of(TURNS)),
-        _ => None,
+    let ended = match words[..] {
+        ["--worker", role] => worker::work(role),
+        ["--help"] => {
+            println!("{HELP}");
+            Ok(())
+        }
+        _ => match plan(&words) {
+            Some(plan) => bench(&plan),
+            None => {
+                println!("{HELP}");
+                return ExitCode::from(2);
+            }
+        },
     };
-    let Some(steps) = steps else {
-        println!("{HELP}");
-        return if words == ["--help"] { ExitCode::SUCCESS } else { ExitCode::from(2) };
+    match ended {
+        Ok(()) => ExitCode::SUCCESS,
+        Err(why) => {
+            eprintln!("bench: {why}");
+            ExitCode::FAILURE
+        }
+    }
+}
+
+fn plan(words: &[&str]) -> Option<Plan> {
+    let mut plan = Plan {
+        seconds: 4.0,
+        turns: 10,
+        sides: vec![240, 256, 512, 1024],
+        kinds: (0..KINDS.len()).collect(),
+        densities: vec![1, 10],
+        machine: machine(),
+        svg: None,
+        page: None,
     };
-    println!("{steps} steps, milliseconds a step");
-    println!("{:<32}{:>10}{:>10}{:>10}", "", "the Rust", "the port", "port/Rust");
-    for side in [240, 256] {
-        for (name, collision) in collisions() {
-            for force in [0.0, 1e-5] {
-                let settings = closed_box(side, collision, force);
-                let (rust, port) = times(&settings, steps);
-                let title = format!("{side} by {side}, {name}{}", if force == 0.0 { "" } else { ", force" });
-                println!("{title:<32}{rust:>10.3}{port:>10.3}{:>10.3}", port / rust);
+    let mut words = words.iter();
+    while let Some(&word) = words.next() {
+        if word == "--quick" {
+            (plan.seconds, plan.turns) = (0.3, 3);
+            continue;
+        }
+        let value = words.next()?;
+        match word {
+            "--seconds" => plan.seconds = value.parse().ok().filter(|&seconds| seconds > 0.0)?,
+            "--sides" => plan.sides = each(value, |side| side.parse().ok())?,
+            "--kinds" => plan.kinds = each(value, |kind| KINDS.iter().position(|&(word, _)| word == kind))?,
+            "--densities" => plan.densities = each(value, |density| density.parse().ok())?,
+            "--machine" => plan.machine = value.to_string(),
+            "--svg" => plan.svg = Some(value.into()),
+            "--page" => plan.page = Some(value.into()),
+            _ => return None,
+        }
+    }
+    Some(plan)
+}
+
+/// The values of a list.
+fn each<T>(list: &str, value: impl Fn(&str) -> Option<T>) -> Option<Vec<T>> {
+    list.split(',').map(value).collect()
+}
+
+/// The processor, by its own name where the system tells it, and how many of them there are.
+fn machine() -> String {
+    let told = fs::read_to_string("/proc/cpuinfo").unwrap_or_default();
+    let name = told.lines().find_map(|line| line.strip_prefix("model name")?.split_once(": "));
+    let cores = available_parallelism().map_or(1, |cores| cores.get());
+    format!("{}, {cores} cores", name.map_or(env::consts::ARCH, |(_, name)| name))
+}
+
+/// Times all lines of a plan, prints them, and writes what the plan asks for.
+fn bench(plan: &Plan) -> io::Result<()> {
+    // A page that cannot be filled in is known before anything is timed.
+    let page = plan.page.as_ref().map(|path| Ok::<_, io::Error>((path, parted(&fs::read_to_string(path)?)?))).transpose()?;
+    let (mut runners, port) = runners()?;
+    let names = runners.iter().map(|runner| runner.name.clone()).collect();
+    let mut report = Report { machine: plan.machine.clone(), names, port, lines: Vec::new() };
+    println!("{}\n{}", report.machine, report.heading());
+    for study in studies(plan) {
+        let line = Line { study, times: times(&mut runners, &study, plan)? };
+        println!("{}", line.text(&report));
+        report.lines.push(line);
+    }
+    println!("{} lines; in each the Rust and the port end alike, bit for bit", report.lines.len());
+    if let Some(path) = &plan.svg {
+        fs::write(path, picture::picture(&report))?;
+    }
+    if let Some((path, (before, after))) = page {
+        fs::write(path, format!("{before}{FROM}\n{}.\n\n{}\n{TO}{after}", report.machine, report.markdown()))?;
+    }
+    Ok(())
+}
+
+/// What stands before and after the measured part of a page.
+fn parted(page: &str) -> io::Result<(String, String)> {
+    let parts = page.split_once(FROM).and_then(|(before, rest)| Some((before, rest.split_once(TO)?.1)));
+    let (before, after) = parts.ok_or_else(|| io::Error::other("the page has no place for what is measured"))?;
+    Ok((before.to_string(), after.to_string()))
+}
+
+/// The runners, and the place of the port's lowest level among them.
+fn runners() -> io::Result<(Vec<Runner>, usize)> {
+    let this = env::current_exe()?;
+    let mut runners = vec![Runner::start(&this, "the Rust", "rust", None)?];
+    // bench/run builds it, and says where it is.
+    if let Some(native) = env::var_os("BROTHWAGON_NATIVE") {
+        runners.push(Runner::start(native.as_ref(), "native", "rust", None)?);
+    }
+    let port = runners.len();
+    for level in levels() {
+        runners.push(Runner::start(&this, level, "port", Some(level))?);
+    }
+    runners.push(Runner::start(&this, "copy", "copy", None)?);
+    Ok((runners, port))
+}
+
+fn studies(plan: &Plan) -> Vec<Study> {
+    let mut studies = Vec::new();
+    for &side in &plan.sides {
+        for &density in &plan.densities {
+            for &kind in &plan.kinds {
+                studies.extend([false, true].map(|forced| Study { side, density, kind, forced }));
             }
         }
     }
-    ExitCode::SUCCESS
+    studies
 }
 
-/// The viscosity of every study here.
-const NU: f64 = 0.05;
-
-fn collisions() -> [(&'static str, Collision); 3] {
-    [("Trt", Collision::trt_with_magic(NU, MAGIC_BOUNCE_BACK)), ("Bgk", Collision::Bgk), ("Mrt", Collision::Mrt)]
-}
-
-fn closed_box(side: usize, collision: Collision, fx: f64) -> ffi::Settings {
-    let wall = Face::NoSlip;
-    let settings =
-        Settings { fx, collision, x_min: wall, x_max: wall, y_min: wall, y_max: wall, ..Settings::new(side, side, NU) };
-    (&settings).into()
-}
-
-/// Milliseconds a step of the Rust and of the port, each in its best turn; stops where they do not end alike.
-fn times(settings: &ffi::Settings, steps: u64) -> (f64, f64) {
-    let mut f = start(settings);
-    let mut post = vec![0.0; f.len()];
-    let mut rust = source::solver(settings, Some(MAGIC_BOUNCE_BACK), f.clone(), post.clone());
-    let turn = steps / TURNS;
-    let (mut of_rust, mut of_port) = (Duration::MAX, Duration::MAX);
-    for _ in 0..TURNS {
-        of_rust = of_rust.min(timed(|| rust.run(turn as usize)));
-        of_port = of_port.min(timed(|| assert_eq!(ffi::run(settings, turn, &mut f, &mut post), 0)));
+/// Milliseconds a step of each runner, in its best turn; fails where they do not end alike.
+fn times(runners: &mut [Runner], study: &Study, plan: &Plan) -> io::Result<Vec<f64>> {
+    for runner in &mut *runners {
+        runner.begin(study)?;
     }
-    assert!(alike(rust.f(), &f) && alike(rust.post(), &post), "the Rust and the port end apart");
-    let a_step = |turned: Duration| turned.as_secs_f64() * 1e3 / turn as f64;
-    (a_step(of_rust), a_step(of_port))
-}
-
-fn timed(act: impl FnOnce()) -> Duration {
-    let began = Instant::now();
-    act();
-    began.elapsed()
-}
-
-fn alike(a: &[f64], b: &[f64]) -> bool {
-    a.iter().map(|entry| entry.to_bits()).eq(b.iter().map(|entry| entry.to_bits()))
-}
-
-/// A flow in which no two cells are alike.
-fn start(settings: &ffi::Settings) -> Vec<f64> {
-    let cells = (settings.nx * settings.ny) as usize;
-    // Steps of the golden ratio through the unit interval: spread out, and the same on every machine.
-    let spread = |at: usize| (at as f64 * 0.618_033_988_749_894_9).fract() - 0.5;
-    let table: Vec<f64> =
-        (0..cells).flat_map(|at| [1.0 + 0.02 * spread(at), 0.1 * spread(at + 1), 0.1 * spread(7 * at)]).collect();
-    let mut f = vec![0.0; 9 * cells];
-    assert_eq!(ffi::initialize(settings, &table, &mut f), 0);
-    f
+    // Two steps to warm up; the Rust's second says how many make a turn.
+    let mut warm = Vec::new();
+    for runner in &mut *runners {
+        runner.turn(1)?;
+        warm.push(runner.turn(1)?);
+    }
+    let steps = (plan.seconds / f64::from(plan.turns) / warm[0].as_secs_f64()).round().max(1.0) as u64;
+    let mut best = vec![Duration::MAX; runners.len()];
+    for _ in 0..plan.turns {
+        for (runner, best) in runners.iter_mut().zip(&mut best) {
+            *best = runner.turn(steps)?.min(*best);
+        }
+    }
+    if let Some(name) = ends_apart(runners, study)? {
+        return Err(io::Error::other(format!("{study}: {name} does not end like the Rust")));
+    }
+    Ok(best.iter().map(|turn| turn.as_secs_f64() * 1e3 / steps as f64).collect())
 }

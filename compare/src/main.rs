@@ -5,6 +5,7 @@ mod case;
 mod comparison;
 mod differences;
 mod expected;
+mod levels;
 mod made;
 mod random;
 mod rules;
@@ -13,6 +14,7 @@ mod studies;
 
 use case::{BUFFERS, Case, OPERATIONS};
 use comparison::{Comparison, Difference};
+use source::levels::{as_asked, level};
 use std::env;
 use std::io::{IsTerminal, Write, stderr};
 use std::process::ExitCode;
@@ -20,16 +22,22 @@ use std::time::{Duration, Instant};
 
 const HELP: &str = "\
 compare/run [SOURCE] [--cases N] [--seed N] [--quick] [--only PLACE]
-compare/run [SOURCE] --studies
+compare/run [SOURCE] --studies [--whole]
 compare/run [SOURCE] --differences
+compare/run [SOURCE] .. --levels
 
 Compares the proved library with the Rust of SOURCE (../shared/docs/src by default), through the C interface, on N made-up cases
 (1,000,000; --quick: 100,000). Each case is one call: its number, its answers and every entry of every lent buffer are compared,
 and so are refused calls, by the table of the rules. --only compares one case of the list that the seed starts, and shows it.
 The first difference that is not listed ends it, with the smallest case found that still differs, and exit status 1.
---studies runs each study of the repository for 20 steps instead, prints the fingerprint that the Rust gives it, and ends with
-status 1 where the library gives another. --differences asks both what docs/DIFFERENCES.md records, and ends with status 1 where
-either answers otherwise.";
+--studies runs each study of the repository for 20 steps instead, or for all its steps (--whole), prints the fingerprint that the
+Rust gives it, and ends with status 1 where the library gives another, or where a study is not physical: a speed of 0.3 or more, a
+number that is not finite, or a mass that drifts without inlet or outlet. --differences asks both what docs/DIFFERENCES.md records,
+and ends with status 1 where either answers otherwise.
+
+The library runs on the highest level of the processor that the machine has, or on the one that BROTHWAGON_LEVEL in the environment
+names. --levels, with any of the above, compares on each in turn, from the lowest. Status 2: the words are not understood, or the
+machine lacks the level.";
 
 /// What to compare.
 struct Plan {
@@ -49,8 +57,17 @@ struct Tally {
 
 fn main() -> ExitCode {
     let words: Vec<String> = env::args().skip(1).collect();
-    match words.iter().map(String::as_str).collect::<Vec<_>>()[..] {
-        ["--studies"] => return studies::compare(),
+    let words: Vec<&str> = words.iter().map(String::as_str).collect();
+    if words.contains(&"--levels") {
+        let others: Vec<&str> = words.into_iter().filter(|&word| word != "--levels").collect();
+        return levels::each(&others);
+    }
+    if !as_asked() {
+        return ExitCode::from(2);
+    }
+    match words[..] {
+        ["--studies"] => return studies::compare(false),
+        ["--studies", "--whole"] => return studies::compare(true),
         ["--differences"] => return differences::show(),
         _ => (),
     }
@@ -58,6 +75,11 @@ fn main() -> ExitCode {
         println!("{HELP}");
         return if words == ["--help"] { ExitCode::SUCCESS } else { ExitCode::from(2) };
     };
+    made_up(&plan)
+}
+
+/// Compares the made-up cases of a plan.
+fn made_up(plan: &Plan) -> ExitCode {
     let mut comparison = Comparison::default();
     let places = plan.only.map_or(0..plan.cases, |only| only..only + 1);
     let mut tally = Tally::default();
@@ -75,22 +97,22 @@ fn main() -> ExitCode {
                 tally.by_number[seen.number as usize] += 1;
             }
             Err(difference) => {
-                differs(&mut comparison, &plan, place, case, difference);
+                differs(&mut comparison, plan, place, case, difference);
                 return ExitCode::FAILURE;
             }
         }
         progress.show(&tally);
     }
-    report(&plan, &tally, &comparison);
+    report(plan, &tally, &comparison);
     reached_all(&tally)
 }
 
-fn plan(words: &[String]) -> Option<Plan> {
+fn plan(words: &[&str]) -> Option<Plan> {
     let mut plan = Plan { seed: 1, cases: 1_000_000, only: None };
     let mut words = words.iter();
     while let Some(word) = words.next() {
         let mut number = || words.next()?.parse().ok();
-        match word.as_str() {
+        match *word {
             "--seed" => plan.seed = number()?,
             "--cases" => plan.cases = number()?,
             "--only" => plan.only = Some(number()?),
@@ -117,7 +139,7 @@ fn differs(comparison: &mut Comparison, plan: &Plan, place: u64, case: Case, dif
 }
 
 fn report(plan: &Plan, tally: &Tally, comparison: &Comparison) {
-    println!("seed {}", plan.seed);
+    println!("seed {}, level {}", plan.seed, level());
     for (operation, cases) in OPERATIONS.iter().zip(tally.by_operation) {
         println!("  {:<18}{cases:>9} cases", format!("{operation:?}"));
     }
@@ -126,7 +148,8 @@ fn report(plan: &Plan, tally: &Tally, comparison: &Comparison) {
     }
     println!("listed differences: {} sums of -0.0 only", comparison.listed.sums);
     println!("                    {} steady runs over a bad snapshot", comparison.listed.snapshots);
-    println!("compare: {} cases, {} entries compared, 0 differences that are not listed", tally.cases, tally.entries);
+    let (cases, entries) = (tally.cases, tally.entries);
+    println!("compare: {cases} cases on {}, {entries} entries compared, 0 differences that are not listed", level());
 }
 
 /// A long comparison that never met some number would say little.

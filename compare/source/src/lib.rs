@@ -1,4 +1,7 @@
 //! The Rust that the port carries over, as it stands (build.rs says what is added), behind one set of calls for both copies.
+//! And the levels that the port has, for the two programs that set it against the Rust.
+
+pub mod levels;
 
 include!(concat!(env!("OUT_DIR"), "/modules.rs"));
 

@@ -46,9 +46,12 @@ pub record SteadyTold : Type 0 where
   pub post : List ℕ
   pub u : List ℕ
 
+abbrev pub steadyLeft : ℕ → List ℕ → List ℕ → List ℕ → List ℕ → SteadyTold
+steadyLeft number answer f post u = record { number = number; answer = answer; f = f; post = post; u = u }
+
 -- settled 1 or 0, the steps, and the residual's pattern
 abbrev pub words : Values → List ℕ
 words v = cond (v .settled) 1 0 ∷ v .steps ∷ patternOf (v .residual) ∷ []
 
 abbrev pub steadyTold : SteadyRun → SteadyTold
-steadyTold r = record { number = r .number; answer = words (r .values); f = r .f; post = r .post; u = r .u }
+steadyTold r = steadyLeft (r .number) (words (r .values)) (r .f) (r .post) (r .u)

@@ -8,10 +8,10 @@ ghost use Rattle.settings.specs.Outcome.{outcome};
 ghost use Rattle.streaming.specs.Streaming.{streamedWithFaces};
 ghost use Rattle.lossless.specs.Lossless.{reply, losslessOf, reversedOf};
 ghost use Rattle.readings.specs.Readings.{initialized, densityRead, velocityRead, velocityFieldRead, totalMassRead, kineticEnergyRead};
-ghost use Rattle.runs.specs.Steps.{Stepped, stepOf, runOf};
+ghost use Rattle.runs.specs.Steps.{left, stepOf, runOf};
 ghost use Rattle.runs.specs.Steady.{steadyOf};
 ghost use Rattle.host.specs.Host.{settingsOf};
-ghost use Rattle.brothwagon.specs.Exported.{readingTold, velocityTold, planeTold, losslessTold, directionTold, SteadyTold, steadyTold};
+ghost use Rattle.brothwagon.specs.Exported.{readingTold, velocityTold, planeTold, losslessTold, directionTold, steadyLeft, steadyTold};
 
 // ---- the start and the readings
 
@@ -145,14 +145,16 @@ pub extern "C" fn brothwagon_reverse(w: &[u64; 19], f: &[u64], post: &mut [u64])
 
 #[no_mangle]
 pub extern "C" fn brothwagon_step(w: &[u64; 19], f: &mut [u64], post: &mut [u64]) -> u32
-    ensures { λ r. ⌜ _≡_ {A = Stepped} (record { number = r; f = now (f .exit); post = now (post .exit) }) (stepOf (settingsOf (now (w .entry))) (now (f .entry)) (now (post .entry))) ⌝ }
+    ensures { λ r. ⌜ left r (now (f .exit)) (now (post .exit))
+        ≡ stepOf (settingsOf (now (w .entry))) (now (f .entry)) (now (post .entry)) ⌝ }
 {
     runs::step(host::settings_of(w), f, post)
 }
 
 #[no_mangle]
 pub extern "C" fn brothwagon_run(w: &[u64; 19], steps: u64, f: &mut [u64], post: &mut [u64]) -> u32
-    ensures { λ r. ⌜ _≡_ {A = Stepped} (record { number = r; f = now (f .exit); post = now (post .exit) }) (runOf (settingsOf (now (w .entry))) steps (now (f .entry)) (now (post .entry))) ⌝ }
+    ensures { λ r. ⌜ left r (now (f .exit)) (now (post .exit))
+        ≡ runOf (settingsOf (now (w .entry))) steps (now (f .entry)) (now (post .entry)) ⌝ }
 {
     runs::run(host::settings_of(w), steps, f, post)
 }
@@ -168,7 +170,9 @@ pub extern "C" fn brothwagon_run_to_steady_state(
     u: &mut [u64],
     answer: &mut [u64; 3],
 ) -> u32
-    ensures { λ r. ⌜ _≡_ {A = SteadyTold} (record { number = r; answer = now (answer .exit); f = now (f .exit); post = now (post .exit); u = now (u .exit) }) (steadyTold (steadyOf (settingsOf (now (w .entry))) tolerance «max_steps» «check_every» (now (f .entry)) (now (post .entry)) (now (u .entry)))) ⌝ }
+    ensures { λ r. ⌜ steadyLeft r (now (answer .exit)) (now (f .exit)) (now (post .exit)) (now (u .exit))
+        ≡ steadyTold (steadyOf (settingsOf (now (w .entry))) tolerance «max_steps» «check_every» (now (f .entry))
+        (now (post .entry)) (now (u .entry))) ⌝ }
 {
     let s = host::settings_of(w);
     let a = runs::run_to_steady_state(s, tolerance, max_steps, check_every, f, post, u);

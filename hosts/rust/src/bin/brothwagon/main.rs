@@ -1,8 +1,10 @@
 //! The command `brothwagon`: runs a study file on the proved library.
 
+mod level;
 mod progress;
 
 use brothwagon::{Lossless, Refusal, Study, StudyFile, fingerprint};
+use level::level;
 use progress::Progress;
 use std::env;
 use std::ffi::OsString;
@@ -20,8 +22,10 @@ brothwagon: the D2Q9 lattice Boltzmann solver, proved
   brothwagon steady STUDY            runs until the velocities settle, or the study's steps run out
   brothwagon lossless STUDY          says whether streaming with the study's faces loses an entry, and the lowest lost one:
                                      `lossless`, or `lossy X Y DIRECTION`
+  brothwagon version                 prints the version, and the level of the processor that the library runs on
+  brothwagon help                    prints this
 
-STUDY is a text file; `#` starts a comment. A line for each of these; the first two and steps must be there:
+STUDY is a text file; `#` starts a comment. A line for each of these; the first three must be there:
 
   sides NX NY                 cells in x and y
   viscosity NUMBER
@@ -35,6 +39,9 @@ STUDY is a text file; `#` starts a comment. A line for each of these; the first 
 
 A number may be a division, as 3/16. The fingerprint is FNV-1a, of 64 bits, over the populations in the order of the buffer,
 each as its 64-bit pattern, lowest byte first: equal states, equal fingerprints, on every machine.
+
+On x86-64 the library has the levels x86-64, x86-64-v3 and x86-64-v4, and runs on the highest that the machine has. If the
+environment's BROTHWAGON_LEVEL names a lower one, it runs on that, more slowly and with the same results.
 
 Exit status: 0 done, 1 refused, 2 the command or the study is not understood, 3 the answer cannot be written.";
 
@@ -94,6 +101,7 @@ fn command(words: &[String], out: &mut impl Write) -> Result<(), Failure> {
         }
         ["steady", path] => steady(path, read(path)?, out),
         ["lossless", path] => lossless(read(path)?, out),
+        ["version" | "--version" | "-V"] => version(out),
         [] | ["help" | "--help" | "-h"] => Ok(writeln!(out, "{HELP}")?),
         _ => Err(Failure::Unreadable(format!("`{}` is not understood; brothwagon --help lists the commands", words.join(" ")))),
     }
@@ -143,6 +151,11 @@ fn lossless(file: StudyFile, out: &mut impl Write) -> Result<(), Failure> {
         Lossless::Lossy { x, y, direction } => writeln!(out, "lossy {x} {y} {direction}")?,
     }
     Ok(())
+}
+
+fn version(out: &mut impl Write) -> Result<(), Failure> {
+    writeln!(out, "brothwagon {}", env!("CARGO_PKG_VERSION"))?;
+    Ok(line(out, "level", level())?)
 }
 
 fn title(out: &mut impl Write, path: &str, file: &StudyFile) -> io::Result<()> {
