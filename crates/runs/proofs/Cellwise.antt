@@ -1,21 +1,21 @@
 -- What a pass over the cells leaves: none yet, one cell more, all cells.
-use mathlib.Core.Path.{_≡_, ap, _∙_}
+use mathlib.Core.Path.{_≡_, sym, ap, _∙_}
 use mathlib.Core.Bool.{Bool, true}
 use mathlib.Core.List.{List}
-use Prim.Native.Nat.{ℕ, _+_, _*_, _≤_, _<_}
-use native.Mathlib.Nat.{le-antisymm}
+use Prim.Native.Nat.{ℕ, _+_, _*_, _/_, _%_, _≤_, _<_}
+use native.Mathlib.Nat.{le-antisymm, mod-lt, mod-add-div', div-lt-iff-lt-mul}
 use native.Mathlib.Omega.{arith}
 use borrow.Author.Needs.{needs}
 use borrow.Author.Tests.{not-false}
 use lib.Ieee.{Float}
-use lib.ListN.{length}
+use lib.ListN.{length, getD}
 use Rattle.number.specs.Number.{patternOf}
 use Rattle.number.specs.Nine.{at}
-use Rattle.grid.specs.Grid.{cellOf}
+use Rattle.grid.specs.Grid.{listed, bufferOf, cellOf}
 use Rattle.grid.specs.Writes.{Put, Cells}
 use Rattle.grid.specs.Finite.{AllFinite}
-use Rattle.grid.proofs.Fields.{is-buffer}
-use Rattle.grid.proofs.Writes.{cells-none, cell-more, cells-all}
+use Rattle.grid.proofs.Fields.{is-listed}
+use Rattle.grid.proofs.Writes.{cells-none, cell-more}
 use Rattle.cell.specs.declared.bgk.BgkRates.{BgkRates}
 use Rattle.cell.specs.declared.trt.TrtRates.{TrtRates}
 use Rattle.cell.specs.declared.mrt.MrtRates.{MrtRates}
@@ -25,7 +25,7 @@ use Rattle.cell.specs.Cell.{bgkRates, trtRates, mrtRates, bgk, trt, mrt, cellBy
 use Rattle.cell.proofs.Cells.{tested}
 use Rattle.settings.specs.declared.Settings.{Settings}
 use Rattle.settings.specs.Tests.{tauOf}
-use Rattle.runs.specs.Passes.{Vouched, entryBy, Passed}
+use Rattle.runs.specs.Passes.{Vouched, entryBy, passed}
 use Rattle.runs.specs.Steps.{collidedEntry, collidedBuffer}
 
 -- ---- a pass by any of the three collisions: the invariant of its loop, and what answers each of its needs
@@ -48,8 +48,14 @@ module _ {collide : List Float → List Float → List Float → List Float} {fx
             (λ i b. ap (λ (x : List Float). patternOf (at x i)) (r ∙ ap (λ (x : List Float). cellBy collide x fx fy) q));
       }
 
-  pub pass-done : {e : List ℕ} {c : ℕ} → Passing collide fx fy n f d e c → n ≤ c → Passed collide fx fy n f d e
-  pass-done w h = rw (le-antisymm (w .low) h) at (w .cells)
+  pub pass-done : {e : List ℕ} {c : ℕ} → Passing collide fx fy n f d e c → n ≤ c → length d ≡ 9 * n → e ≡ passed collide fx fy n f
+  unfolding passed
+  pass-done {e} w h size =
+      let all = rw (le-antisymm (w .low) h) at (w .cells) in
+      is-listed (9 * n) e (λ k. entryBy collide fx fy f n (k % n) (k / n)) (all .size ∙ size)
+      (λ k b.
+      let some : 0 < n = omega arith in
+      ap (λ (j : ℕ). getD e j 0) (sym (mod-add-div' k n)) ∙ all .written (k % n) (k / n) (mod-lt k some) (div-lt-iff-lt-mul some .1 b))
 
 pub ruleset passing = (pass-none, pass-more, pass-done, needs)
 
@@ -61,23 +67,22 @@ vouched v e = v .so e
 -- what a pass requires, from the tests before it
 pub ruleset chosen = (vouched, tested, not-false, needs)
 
-module _ (s : Settings) (f : List ℕ) {d e : List ℕ} where
-  all-cells : {k : Collision} → s .collision ≡ k → length d ≡ 9 * (s .nx * s .ny)
-      → Passed (collidedBy k (tauOf (s .nu))) (s .fx) (s .fy) (s .nx * s .ny) f d e → e ≡ collidedBuffer s f
-  unfolding collidedBuffer collided
-  all-cells kind size w =
-      is-buffer (s .nx) (s .ny) e (λ x y i. collidedEntry s f (x + y * s .nx) i) (w .size ∙ size)
-      (cells-all d e (s .nx) (s .ny) (collidedEntry s f) (rw (← kind) at w))
+module _ (s : Settings) (f : List ℕ) where
+  all-cells : {k : Collision} → s .collision ≡ k → passed (collidedBy k (tauOf (s .nu))) (s .fx) (s .fy) (s .nx * s .ny) f ≡ collidedBuffer s f
+  unfolding passed collidedBuffer bufferOf collided
+  all-cells kind =
+      let n = s .nx * s .ny in
+      rw (← kind) (λ i. listed (9 * n) (λ k. collidedEntry s f (sym (mod-add-div' (k % n) (s .nx)) i) (k / n)))
 
-  module _ {tau : Float} (time : tau ≡ tauOf (s .nu)) (size : length d ≡ 9 * (s .nx * s .ny)) where
-    pub bgk-all : {rates : BgkRates} → s .collision ≡ Bgk → rates ≡ bgkRates tau → Passed (bgk rates) (s .fx) (s .fy) (s .nx * s .ny) f d e → e ≡ collidedBuffer s f
+  module _ {e : List ℕ} {tau : Float} (time : tau ≡ tauOf (s .nu)) where
+    pub bgk-all : {rates : BgkRates} → s .collision ≡ Bgk → rates ≡ bgkRates tau → e ≡ passed (bgk rates) (s .fx) (s .fy) (s .nx * s .ny) f → e ≡ collidedBuffer s f
     unfolding collidedBy
-    bgk-all kind so w = all-cells kind size (rw (so, time) at w)
+    bgk-all kind so w = w ∙ rw (so, time) (all-cells kind)
 
-    pub trt-all : {rate : Float} {rates : TrtRates} → s .collision ≡ Trt rate → rates ≡ trtRates tau rate → Passed (trt rates) (s .fx) (s .fy) (s .nx * s .ny) f d e → e ≡ collidedBuffer s f
+    pub trt-all : {rate : Float} {rates : TrtRates} → s .collision ≡ Trt rate → rates ≡ trtRates tau rate → e ≡ passed (trt rates) (s .fx) (s .fy) (s .nx * s .ny) f → e ≡ collidedBuffer s f
     unfolding collidedBy
-    trt-all kind so w = all-cells kind size (rw (so, time) at w)
+    trt-all kind so w = w ∙ rw (so, time) (all-cells kind)
 
-    pub mrt-all : {rates : MrtRates} → s .collision ≡ Mrt → rates ≡ mrtRates tau → Passed (mrt rates) (s .fx) (s .fy) (s .nx * s .ny) f d e → e ≡ collidedBuffer s f
+    pub mrt-all : {rates : MrtRates} → s .collision ≡ Mrt → rates ≡ mrtRates tau → e ≡ passed (mrt rates) (s .fx) (s .fy) (s .nx * s .ny) f → e ≡ collidedBuffer s f
     unfolding collidedBy
-    mrt-all kind so w = all-cells kind size (rw (so, time) at w)
+    mrt-all kind so w = w ∙ rw (so, time) (all-cells kind)

@@ -20,11 +20,11 @@ use Rattle.readings.specs.Readings.{velocityBuffer}
 use Rattle.runs.specs.declared.steady.Checks.{Checks}
 use Rattle.runs.specs.declared.steady.Check.{Check}
 use Rattle.runs.specs.declared.steady.Check.the-variants.{Bad, Settles, GoesOn}
-use Rattle.runs.specs.declared.steady.Steady.the-variants.{Refused, RanOut, Ruined}
+use Rattle.runs.specs.declared.steady.Steady.the-variants.{Refused, Settled, RanOut, Ruined}
 use Rattle.runs.specs.Passes.{AllReady, Vouched, clearAfter}
 use Rattle.runs.specs.Steps.{State, state, oneStep, steps}
 use Rattle.runs.specs.Steady.{checksOf, badSnapshot, residualOf, checked, found, checkOf, SteadyRun, ended, verdict, onward, started, settling, steadyOf}
-use Rattle.runs.proofs.Stepwise.{Going, going-none, going-more}
+use Rattle.runs.proofs.Stepwise.{first-told, Going, going-none, going-more}
 
 -- ---- the check after step k: what was found of it, one test after the other
 
@@ -92,13 +92,21 @@ module _ (s : Settings) (checks : Checks) where
         stepped = going-more h (way .going) step v
 
         -- what the check makes of the run is the whole run's outcome
-        pub turn : verdict (k + 1) (state f' post') c u' (onward s checks b (most - (k + 1)) (k + 1)) ≡ started s checks b u₀
+        turn : verdict (k + 1) (state f' post') c u' (onward s checks b (most - (k + 1)) (k + 1)) ≡ started s checks b u₀
         turn =
             let m : most - k ≡ suc (most - suc k) = omega arith in
             rw (add-one k) (unrolled b (most - suc k) k u r (rw (add-one k) at (stepped .reached)) (rw (add-one k) at check) ∙ rw m at (way .whole))
 
+        pub ruined : c ≡ Bad → ended (Ruined (k + 1)) (state f' post') u' ≡ started s checks b u₀
+        ruined e = rw e at turn
+
+        pub settled : {q : Float} → c ≡ Settles q → ended (Settled (k + 1) q) (state f' post') u' ≡ started s checks b u₀
+        settled e = rw e at turn
+
         pub on : {q : Float} → c ≡ GoesOn q → length u' ≡ length u → Underway s checks b u₀ f' post' u' q finite' (k + 1)
         on e us = record { going = stepped; u-size = us ∙ way .u-size; whole = rw e at turn }
+
+pub ruleset turning = (begun, first-told, ran-out, ruined, settled, needs)
 
 -- ---- the whole run, where the first snapshot is bad and where it is not
 

@@ -2,14 +2,13 @@
 use mathlib.Core.Path.{_≡_}
 use mathlib.Core.Bool.{Bool, true, false}
 use mathlib.Core.List.{List}
-use Prim.Native.Nat.{ℕ, _+_, _*_, _≤_}
+use Prim.Native.Nat.{ℕ, _+_, _*_, _/_, _%_, _≤_}
 use lib.ListN.{length, getD, set}
 use lib.Ieee.{Float}
 use Rattle.number.specs.Number.{valueOf, patternOf, magnitudeOf, largerOf, _⊖_}
 use Rattle.number.specs.Joined.{clearOf}
 use Rattle.number.specs.Nine.{at}
-use Rattle.grid.specs.Grid.{mostCells, Grid, cellOf}
-use Rattle.grid.specs.Writes.{Cells}
+use Rattle.grid.specs.Grid.{mostCells, Grid, listed, cellOf}
 use Rattle.grid.specs.Finite.{AllFinite}
 use Rattle.cell.specs.declared.Moments.{Moments}
 use Rattle.cell.specs.Cell.{cellBy}
@@ -53,9 +52,9 @@ clearAfter s f = clearOf (carriedJoin false s (collidedBuffer s f))
 abbrev pub entryBy : (List Float → List Float → List Float → List Float) → Float → Float → List ℕ → ℕ → ℕ → ℕ → ℕ
 entryBy collide fx fy f n c i = patternOf (at (cellBy collide (cellOf f n c) fx fy) i)
 
--- what a pass over the n cells of f leaves of post: post', with every cell so collided
-abbrev pub Passed : (List Float → List Float → List Float → List Float) → Float → Float → ℕ → List ℕ → List ℕ → List ℕ → Type 0
-Passed collide fx fy n f post post' = Cells post post' n n (entryBy collide fx fy f n)
+-- what a pass over the n cells of f writes: every cell so collided
+unfoldable pub passed : (List Float → List Float → List Float → List Float) → Float → Float → ℕ → List ℕ → List ℕ
+passed collide fx fy n f = listed (9 * n) (λ k. entryBy collide fx fy f n (k % n) (k / n))
 
 -- the two maxima once a component is taken in, which was `last` in the last snapshot
 abbrev pub takenIn : Maxima → Float → Float → Maxima

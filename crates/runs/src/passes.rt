@@ -10,12 +10,12 @@ ghost use mathlib.Core.Bool.{true, false};
 ghost use Rattle.grid.specs.Finite.{AllFinite};
 ghost use Rattle.cell.specs.declared.Collision.the-variants.{Bgk, Mrt, Trt};
 ghost use Rattle.cell.specs.Cell.{forcedBy, bgk, trt, mrt};
-ghost use Rattle.runs.specs.Passes.{Paired, Ready, Vouched, Passed};
+ghost use Rattle.runs.specs.Passes.{Paired, Ready, Vouched, passed};
 ghost use Rattle.runs.specs.Steps.{collidedBuffer};
 
 fn bgk_pass(n: usize, fx: f64, fy: f64, rates: BgkRates, f: &[u64], post: &mut [u64])
     requires { ⌜ Paired n (now f) (now post) × (forcedBy fx fy ≡ false) × AllFinite (now f) ⌝ }
-    ensures { λ _. ⌜ Passed (bgk rates) fx fy n (now (f .entry)) (now (post .entry)) (now (post .exit)) ⌝ }
+    ensures { λ _. ⌜ now (post .exit) ≡ passed (bgk rates) fx fy n (now (f .entry)) ⌝ }
 {
     let mut c = 0;
     while c < n {
@@ -27,7 +27,7 @@ fn bgk_pass(n: usize, fx: f64, fy: f64, rates: BgkRates, f: &[u64], post: &mut [
 
 fn bgk_pass_forced(n: usize, fx: f64, fy: f64, rates: BgkRates, f: &[u64], post: &mut [u64])
     requires { ⌜ Paired n (now f) (now post) × (forcedBy fx fy ≡ true) × AllFinite (now f) ⌝ }
-    ensures { λ _. ⌜ Passed (bgk rates) fx fy n (now (f .entry)) (now (post .entry)) (now (post .exit)) ⌝ }
+    ensures { λ _. ⌜ now (post .exit) ≡ passed (bgk rates) fx fy n (now (f .entry)) ⌝ }
 {
     let mut c = 0;
     while c < n {
@@ -39,7 +39,7 @@ fn bgk_pass_forced(n: usize, fx: f64, fy: f64, rates: BgkRates, f: &[u64], post:
 
 fn trt_pass(n: usize, fx: f64, fy: f64, rates: TrtRates, f: &[u64], post: &mut [u64])
     requires { ⌜ Paired n (now f) (now post) × (forcedBy fx fy ≡ false) × AllFinite (now f) ⌝ }
-    ensures { λ _. ⌜ Passed (trt rates) fx fy n (now (f .entry)) (now (post .entry)) (now (post .exit)) ⌝ }
+    ensures { λ _. ⌜ now (post .exit) ≡ passed (trt rates) fx fy n (now (f .entry)) ⌝ }
 {
     let mut c = 0;
     while c < n {
@@ -51,7 +51,7 @@ fn trt_pass(n: usize, fx: f64, fy: f64, rates: TrtRates, f: &[u64], post: &mut [
 
 fn trt_pass_forced(n: usize, fx: f64, fy: f64, rates: TrtRates, f: &[u64], post: &mut [u64])
     requires { ⌜ Paired n (now f) (now post) × (forcedBy fx fy ≡ true) × AllFinite (now f) ⌝ }
-    ensures { λ _. ⌜ Passed (trt rates) fx fy n (now (f .entry)) (now (post .entry)) (now (post .exit)) ⌝ }
+    ensures { λ _. ⌜ now (post .exit) ≡ passed (trt rates) fx fy n (now (f .entry)) ⌝ }
 {
     let mut c = 0;
     while c < n {
@@ -63,7 +63,7 @@ fn trt_pass_forced(n: usize, fx: f64, fy: f64, rates: TrtRates, f: &[u64], post:
 
 fn bgk_pass_any(n: usize, fx: f64, fy: f64, rates: BgkRates, f: &[u64], post: &mut [u64])
     requires { ⌜ Paired n (now f) (now post) ⌝ }
-    ensures { λ _. ⌜ Passed (bgk rates) fx fy n (now (f .entry)) (now (post .entry)) (now (post .exit)) ⌝ }
+    ensures { λ _. ⌜ now (post .exit) ≡ passed (bgk rates) fx fy n (now (f .entry)) ⌝ }
 {
     let mut c = 0;
     while c < n {
@@ -75,7 +75,7 @@ fn bgk_pass_any(n: usize, fx: f64, fy: f64, rates: BgkRates, f: &[u64], post: &m
 
 fn trt_pass_any(n: usize, fx: f64, fy: f64, rates: TrtRates, f: &[u64], post: &mut [u64])
     requires { ⌜ Paired n (now f) (now post) ⌝ }
-    ensures { λ _. ⌜ Passed (trt rates) fx fy n (now (f .entry)) (now (post .entry)) (now (post .exit)) ⌝ }
+    ensures { λ _. ⌜ now (post .exit) ≡ passed (trt rates) fx fy n (now (f .entry)) ⌝ }
 {
     let mut c = 0;
     while c < n {
@@ -87,7 +87,7 @@ fn trt_pass_any(n: usize, fx: f64, fy: f64, rates: TrtRates, f: &[u64], post: &m
 
 fn mrt_pass(n: usize, fx: f64, fy: f64, rates: MrtRates, f: &[u64], post: &mut [u64])
     requires { ⌜ Paired n (now f) (now post) ⌝ }
-    ensures { λ _. ⌜ Passed (mrt rates) fx fy n (now (f .entry)) (now (post .entry)) (now (post .exit)) ⌝ }
+    ensures { λ _. ⌜ now (post .exit) ≡ passed (mrt rates) fx fy n (now (f .entry)) ⌝ }
 {
     let mut c = 0;
     while c < n {

@@ -17,8 +17,7 @@ pub enum Steady {
     Ruined(u64),
 }
 
-// What is asked of a steady run: below the tolerance it settles, checked after every so many steps, and at the latest it stops after
-// the most.
+// What is asked of a steady run: the tolerance below which it is settled, the most steps, and how many of them to a check.
 struct Checks {
     tolerance: f64,
     max_steps: u64,
