@@ -1,5 +1,4 @@
 -- Any two outcomes that the contract of an exported function allows on the same input coincide: the number, and all that a host lent.
--- Assumes nothing.
 use mathlib.Core.Path.{_≡_, sym, ap, _∙_}
 use Prim.Native.Nat.{ℕ}
 use contract.Lifetimes.{Lfts}

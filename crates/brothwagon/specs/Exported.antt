@@ -1,5 +1,4 @@
 -- What the exported functions leave with a host: the outcomes of the operations, with every value of an answer as a word.
--- Assumes nothing.
 use mathlib.Core.Bool.{Bool, cond}
 use mathlib.Core.List.{List, [], _∷_}
 use Prim.Native.Nat.{ℕ}

@@ -1,5 +1,4 @@
 -- The exact case of the equilibrium: at rest it is the one product W·ρ.
--- Assumes nothing.
 use mathlib.Core.Path.{_≡_, refl, sym, ap, _∙_, subst}
 use mathlib.Core.Bool.{Bool, true, false, cond, _&&_}
 use Prim.Native.Nat.{ℕ, zero, suc, _*_, _<_}

@@ -1,5 +1,4 @@
 -- Buffers of one size and fields on the grid determine each other, so that a contract on either is one on the other.
--- Assumes nothing.
 use mathlib.Core.Path.{_≡_, refl, sym, ap, _∙_}
 use mathlib.Core.List.{List, [], _∷_}
 use Prim.Native.Nat.{ℕ, zero, suc, _+_, _*_, _<_}

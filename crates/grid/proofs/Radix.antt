@@ -1,5 +1,4 @@
 -- Mixed radix, once: a + b·n with a < n has the digits a and b, so an entry's place is in range, says x, y and i, and each place is an entry's.
--- Assumes nothing.
 use mathlib.Core.Path.{_≡_, sym, ap, _∙_}
 use mathlib.Core.Logic.{_⊎_, inl, inr}
 use Prim.Native.Nat.{ℕ, zero, suc, _+_, _*_, _/_, _%_, _≤_, _<_}

@@ -1,5 +1,4 @@
 -- What a write leaves alone: the laws that every loop that writes cites, over the values that it writes.
--- Assumes nothing.
 use mathlib.Core.Path.{_≡_, refl, ap, _∙_, subst}
 use mathlib.Core.List.{List}
 use mathlib.Core.Logic.{⊎-elim}

@@ -1,5 +1,4 @@
 -- A grid, where its entries stand in a lent buffer, and the fields that buffers hold.
--- Assumes nothing.
 use mathlib.Core.Path.{_≡_}
 use mathlib.Core.List.{List, [], _∷_}
 use Prim.Native.Nat.{ℕ, zero, suc, _+_, _*_, _/_, _%_, _≤_, _<_}

@@ -1,5 +1,4 @@
 -- What a function that writes into a lent buffer leaves: the new values, and all else as it was.
--- Assumes nothing.
 use mathlib.Core.Path.{_≡_}
 use mathlib.Core.List.{List}
 use Prim.Native.Nat.{ℕ, _+_, _*_, _≤_, _<_}

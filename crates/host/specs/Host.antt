@@ -1,5 +1,4 @@
 -- The settings as a host lends them: nineteen words of 64 bits, field by field those of the C struct.
--- Assumes nothing.
 use mathlib.Core.Bool.{cond}
 use mathlib.Core.List.{List}
 use Prim.Native.Nat.{ℕ, _+_}

@@ -1,5 +1,4 @@
 -- The lookup of a direction: what it passes, what it finds, and that number 11 is given exactly when no row of E is the pair.
--- Assumes nothing.
 use mathlib.Core.Path.{_≡_, refl, sym, ap, _∙_, subst}
 use mathlib.Core.Bool.{Bool, true, false, cond, _&&_}
 use Prim.Native.Nat.{ℕ, zero, suc, _+_, _-_, _≤_, _<_}

@@ -1,5 +1,4 @@
 -- Any two outcomes that the contract of the direction lookup allows on the same input coincide.
--- Assumes nothing.
 use mathlib.Core.Path.{_≡_, sym, _∙_}
 use contract.Lifetimes.{Lfts}
 use denote.Triple.Clauses.{AtExit}

@@ -1,5 +1,4 @@
 -- The rules of the tables, each one test that antt computes over the whole table.
--- Assumes nothing.
 use mathlib.Core.Path.{_≡_, refl}
 use mathlib.Core.Bool.{true}
 use mathlib.Core.List.{[], _∷_}

@@ -1,5 +1,4 @@
 -- The lattice D2Q9: the tables E, W, OPP, M and M_NORM, as the source prints them.
--- Assumes nothing.
 use mathlib.Core.Bool.{cond}
 use mathlib.Core.List.{List, [], _∷_, map}
 use Prim.Native.Nat.{ℕ, zero, suc}

@@ -1,5 +1,4 @@
 -- The fewest decimal digits that hold a number are the number in decimal, which reads back as the number and has no zero in front.
--- Assumes nothing.
 use mathlib.Core.Path.{_≡_, refl, ap}
 use mathlib.Core.List.{List, [], _∷_, _++_}
 use Prim.Native.Nat.{ℕ, zero, suc, _+_, _-_, _*_, _/_, _%_, _^_, _≤_, _<_}

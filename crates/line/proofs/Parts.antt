@@ -1,5 +1,4 @@
 -- What a readable line tells of its letters and sides.
--- Assumes nothing.
 use mathlib.Core.Path.{_≡_}
 use mathlib.Core.Bool.{true, _&&_}
 use mathlib.Core.List.{List}

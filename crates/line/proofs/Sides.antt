@@ -1,5 +1,4 @@
 -- Digits passed one by one: whether all are digits, and what number they say, which stays small.
--- Assumes nothing.
 use mathlib.Core.Path.{_≡_, refl, sym, _∙_}
 use mathlib.Core.Bool.{Bool, true, false, _&&_}
 use mathlib.Core.List.{List}

@@ -1,5 +1,4 @@
 -- How long the words of an answer are, and that every answer has room.
--- Assumes nothing.
 use mathlib.Core.Path.{_≡_, refl}
 use mathlib.Core.Bool.{Bool, true, false, cond}
 use mathlib.Core.List.{List}

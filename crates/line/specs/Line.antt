@@ -1,5 +1,4 @@
 -- Which lines are readable, what each asks, and the bytes that are written for it.
--- Assumes nothing.
 use mathlib.Core.Path.{_≡_}
 use mathlib.Core.Bool.{Bool, true, cond, _&&_, _||_}
 use mathlib.Core.List.{List, [], _∷_, _++_}

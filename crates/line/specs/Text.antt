@@ -1,5 +1,4 @@
 -- Texts as lists of bytes: what is written out, a number in decimal, and a text that is put into a buffer.
--- Assumes nothing.
 use mathlib.Core.Bool.{cond}
 use mathlib.Core.List.{List, [], _∷_, _++_}
 use Prim.Native.Nat.{ℕ, zero, suc, _+_, _/_, _%_}

@@ -1,5 +1,4 @@
 -- The reverse: where the faces are lossless, streaming with faces gives f back from it, and from no other buffer; and it is what the code leaves.
--- Assumes nothing.
 use mathlib.Core.Path.{_≡_, sym, ap, _∙_}
 use mathlib.Core.Bool.{true, false}
 use mathlib.Core.List.{List}

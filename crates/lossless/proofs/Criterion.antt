@@ -1,5 +1,4 @@
 -- The closed criterion `lossy`: where it says no, nothing strays, every entry is clear, and the two maps are inverse.
--- Assumes nothing.
 use mathlib.Core.Path.{_≡_, refl, sym, ap, ap₂, _∙_}
 use mathlib.Core.Bool.{Bool, true, false, not, xor, _&&_, _||_, true≢false}
 use Prim.Native.Nat.{_≤_, _<_}

@@ -1,5 +1,4 @@
 -- At the ends of an axis, once for both axes and both sides: what goes out through one face comes in at the other end, is turned back, or strays.
--- Assumes nothing.
 use mathlib.Core.Path.{_≡_, refl, sym, _∙_}
 use mathlib.Core.Bool.{Bool, true, false, not, cond, _&&_, _||_, true≢false, false≢true, or-true}
 use mathlib.Core.Logic.{⊎-elim}

@@ -1,5 +1,4 @@
 -- `target` turns back `source` and `source` turns back `target`, where what an entry meets is clear.
--- Assumes nothing.
 use mathlib.Core.Path.{_≡_, refl, sym, ap, _∙_}
 use mathlib.Core.Bool.{Bool, true, false, cond}
 use Rattle.lattice.specs.declared.Axis.{Axis}

@@ -1,5 +1,4 @@
 -- Where the faces are lossy, the entry that `lowest` names is gone, and every entry with a smaller index is clear.
--- Assumes nothing.
 use mathlib.Core.Path.{_≡_, refl, sym, ap, _∙_, subst}
 use mathlib.Core.Bool.{Bool, true, false, cond, _||_, true≢false, false≢true}
 use mathlib.Core.Logic.{_⊎_, inl, inr, ⊎-elim}

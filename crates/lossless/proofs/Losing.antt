@@ -1,5 +1,4 @@
 -- What makes an entry clear, so that it is kept, and what makes it gone, so that it is the source of none.
--- Assumes nothing.
 use mathlib.Core.Path.{_≡_, refl, sym, ap, _∙_}
 use mathlib.Core.Bool.{Bool, true, false, true≢false, false≢true}
 use Prim.Native.Nat.{_+_, _≤_, _<_}

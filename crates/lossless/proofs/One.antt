@@ -1,5 +1,4 @@
 -- Any two outcomes that the contract of a public operation allows on the same input coincide: the answer, the number, and the lent buffer.
--- Assumes nothing.
 use mathlib.Core.Path.{_≡_, sym, ap, _∙_}
 use contract.Lifetimes.{Lfts}
 use denote.Ref.{now}

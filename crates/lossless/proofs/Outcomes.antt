@@ -1,5 +1,4 @@
 -- What the two outcomes come to: the question's answer is right in every case, and the reverse leaves the one buffer that is streamed to f.
--- Assumes nothing.
 use mathlib.Core.Path.{_≡_, refl, sym, ap, _∙_, subst}
 use mathlib.Core.Bool.{Bool, true, false, cond}
 use mathlib.Core.List.{List}

@@ -1,5 +1,4 @@
 -- Which faces an entry meets when it is turned around, turned back by a face or carried on: what it meets depends on its steps alone.
--- Assumes nothing.
 use mathlib.Core.Path.{_≡_, sym, ap, _∙_}
 use mathlib.Core.Bool.{Bool, true, false, cond}
 use Prim.Native.Nat.{ℕ, _<_}

@@ -1,5 +1,4 @@
 -- THE ANSWER IS RIGHT: no two buffers are streamed to one exactly when `lossy` says no; and where it says yes, the entry at `lowest` is the lowest that is lost.
--- Assumes nothing.
 use mathlib.Core.Path.{_≡_, refl, sym, ap, _∙_, subst}
 use mathlib.Core.Bool.{Bool, true, false}
 use mathlib.Core.List.{List}

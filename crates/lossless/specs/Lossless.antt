@@ -1,5 +1,4 @@
 -- Which faces lose nothing, the lowest entry that is lost, and the reverse; then the outcomes of the two operations.
--- Assumes nothing.
 use mathlib.Core.Path.{_≡_}
 use mathlib.Core.Bool.{Bool, not, cond, _&&_}
 use mathlib.Core.List.{List, [], _∷_}

@@ -1,5 +1,4 @@
 -- The marked cases: antt computes what the definitions give.
--- Assumes nothing.
 use mathlib.Core.Path.{_≡_, refl}
 use mathlib.Core.Bool.{xor}
 use lib.Ieee.{ofBits, ofInt, add, sub, mul, div, lt}

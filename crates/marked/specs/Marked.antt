@@ -1,5 +1,4 @@
 -- The marked cases C1 to C11 as one table, in the rules' order and words: what the definitions give, and what is said of it.
--- Assumes nothing.
 use mathlib.Core.List.{List, [], _∷_, _++_, map}
 use Prim.Native.Nat.{ℕ}
 use lib.Ieee.{Float}

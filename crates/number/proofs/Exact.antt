@@ -1,6 +1,5 @@
 -- A value that the format holds comes back from `round` as it is, and so from a product with 1.
 -- Two values of one sign that fit and are the same number have the same bits, so they are one.
--- Assumes nothing.
 use mathlib.Core.Path.{_≡_, refl, sym, ap, _∙_, subst}
 use mathlib.Core.Bool.{Bool, true, false, cond, _&&_}
 use Prim.Native.Nat.{ℕ, zero, suc, _+_, _-_, _*_, _/_, _%_, _^_, _≤_, _<_}

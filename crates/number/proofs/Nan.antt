@@ -1,5 +1,4 @@
 -- The tests for a NaN: on a pattern, and on a number.
--- Assumes nothing.
 use mathlib.Core.Path.{_≡_, refl, sym, ap, _∙_, subst}
 use mathlib.Core.Bool.{Bool, true, false, not}
 use Prim.Native.Nat.{ℕ, _%_, _≤_, _<_}

@@ -1,5 +1,4 @@
 -- What a loop keeps, once for every such loop: a list of nine that is filled from the front, and a sum.
--- Assumes nothing.
 use mathlib.Core.Path.{_≡_, refl, sym, ap, _∙_, subst}
 use mathlib.Core.List.{List, [], _∷_}
 use Prim.Native.Nat.{ℕ, zero, suc, _+_, _≤_, _<_}

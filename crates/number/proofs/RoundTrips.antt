@@ -1,5 +1,4 @@
 -- Patterns and numbers determine each other, NaNs aside.
--- Assumes nothing.
 use mathlib.Core.Path.{_≡_}
 use mathlib.Core.Bool.{not}
 use Prim.Native.Nat.{ℕ, _^_, _<_}

@@ -1,5 +1,4 @@
 -- Lists of nine, one entry a direction, and sums from the left.
--- Assumes nothing.
 use mathlib.Core.List.{List, [], _∷_}
 use Prim.Native.Nat.{ℕ, zero, suc}
 use lib.ListN.{getD}

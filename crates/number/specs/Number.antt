@@ -1,5 +1,4 @@
 -- Numbers of 64 bits: the f64 operations, each rounded once to nearest even, and the patterns that stand for numbers in a lent buffer.
--- Assumes nothing.
 use mathlib.Core.Bool.{Bool, true, false, cond, _||_}
 use Prim.Native.Nat.{ℕ}
 use lib.Ieee.{Float, nan, inf, fin, binary64, ofBits, toBits, isNan, add, sub, mul, div, lt, ne}

@@ -1,5 +1,4 @@
 -- The two loops that fill a buffer cell by cell: what one cell more writes, and what all cells make of the buffer.
--- Assumes nothing.
 use mathlib.Core.Path.{_≡_, sym, ap, _∙_}
 use mathlib.Core.List.{List}
 use Prim.Native.Nat.{ℕ, _+_, _*_, _/_, _%_, _<_}

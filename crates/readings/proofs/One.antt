@@ -1,5 +1,4 @@
 -- Any two outcomes that a contract, as the checker reads it (`Post`), allows on the same input coincide: what is returned and the buffer that is written.
--- Assumes nothing.
 use mathlib.Core.Path.{_≡_, sym, _∙_}
 use Prim.Native.Nat.{ℕ}
 use contract.Lifetimes.{Lfts}

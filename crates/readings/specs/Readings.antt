@@ -1,5 +1,4 @@
 -- What the readings answer, and what they leave in the buffers that they write. Cell c = x + y·nx is the one at (x, y).
--- Assumes nothing.
 use mathlib.Core.Path.{_≡_}
 use mathlib.Core.Bool.{cond}
 use mathlib.Core.List.{List}

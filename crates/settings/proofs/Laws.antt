@@ -1,5 +1,4 @@
 -- What the tests tell where they do not hold, and so what is known of a call that is not refused.
--- Assumes nothing.
 use mathlib.Core.Path.{_≡_, refl}
 use mathlib.Core.Bool.{Bool, true, false, cond, _||_}
 use mathlib.Core.List.{List, [], _∷_}

@@ -1,5 +1,4 @@
 -- Every operation tests in the one order: its numbers stand as in `order`, whatever the call.
--- Assumes nothing.
 use mathlib.Core.Path.{_≡_, refl}
 use mathlib.Core.Bool.{true}
 use Rattle.settings.specs.Refusals.{Call, tests, order, follows, initialize, density, velocity, velocityField, totalMass, kineticEnergy, plane, streamWithFaces, lossless, reverse, step, run, runToSteadyState}

@@ -1,5 +1,4 @@
 -- The two ways of an outcome, where the code found the number n and the rules give m; and what equal outcomes have in common.
--- Assumes nothing.
 use mathlib.Core.Path.{_≡_, ap}
 use Prim.Native.Nat.{ℕ}
 use borrow.Author.Tests.{eq-eqb, ne-eqb}

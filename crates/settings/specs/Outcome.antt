@@ -1,5 +1,4 @@
 -- What a refusal makes of an operation's outcome.
--- Assumes nothing.
 use mathlib.Core.Bool.{cond}
 use mathlib.Core.List.{List}
 use Prim.Native.Nat.{ℕ}

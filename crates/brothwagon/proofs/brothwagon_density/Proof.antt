@@ -1,5 +1,4 @@
 -- `brothwagon::brothwagon_density` meets its contract: the reading, at the settings that the words stand for, as words.
--- Assumes nothing.
 use borrow.Author.Needs.{needs}
 use Rattle.brothwagon.proofs.brothwagon_density.Statement.{statement}
 use Rattle.brothwagon.proofs.brothwagon_density.Tie as tie

@@ -1,5 +1,4 @@
 -- `brothwagon::brothwagon_dir_index` meets its contract: what is looked up are the two numbers.
--- Assumes nothing.
 use mir.Facts.{toZ-ofZ}
 use borrow.Author.Needs.{needs}
 use Rattle.brothwagon.proofs.brothwagon_dir_index.Statement.{statement}

@@ -1,5 +1,4 @@
 -- `brothwagon::brothwagon_kinetic_energy` meets its contract: the reading, at the settings that the words stand for, as words.
--- Assumes nothing.
 use borrow.Author.Needs.{needs}
 use Rattle.brothwagon.proofs.brothwagon_kinetic_energy.Statement.{statement}
 use Rattle.brothwagon.proofs.brothwagon_kinetic_energy.Tie as tie

@@ -1,5 +1,4 @@
 -- `brothwagon::brothwagon_lossless` meets its contract: each answer, as words.
--- Assumes nothing.
 use mathlib.Core.Path.{ap}
 use borrow.Author.Needs.{needs}
 use Rattle.lossless.specs.Lossless.{Reply}

@@ -1,5 +1,4 @@
 -- `brothwagon::brothwagon_plane` meets its contract: a part of `count` entries starts at direction times count, refused or not.
--- Assumes nothing.
 use mathlib.Core.Path.{_≡_, refl}
 use mathlib.Core.Bool.{Bool, true, false, cond}
 use Prim.Native.Nat.{ℕ, _*_, _^_, _<_}

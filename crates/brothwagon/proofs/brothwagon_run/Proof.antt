@@ -1,5 +1,4 @@
 -- `brothwagon::brothwagon_run` meets its contract: the operation, at the settings that the words stand for.
--- Assumes nothing.
 use borrow.Author.Needs.{needs}
 use Rattle.brothwagon.proofs.brothwagon_run.Statement.{statement}
 use Rattle.brothwagon.proofs.brothwagon_run.Tie as tie

@@ -1,5 +1,4 @@
 -- `brothwagon::brothwagon_run_to_steady_state` meets its contract: each answer, as words.
--- Assumes nothing.
 use mathlib.Core.Path.{ap}
 use lib.Ieee.{toBits, ofBits}
 use Rattle.brothwagon.specs.Exported.{steadyTold}

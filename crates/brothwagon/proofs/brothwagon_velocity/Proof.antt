@@ -1,5 +1,4 @@
 -- `brothwagon::brothwagon_velocity` meets its contract: the reading, at the settings that the words stand for, as words.
--- Assumes nothing.
 use borrow.Author.Needs.{needs}
 use Rattle.brothwagon.proofs.brothwagon_velocity.Statement.{statement}
 use Rattle.brothwagon.proofs.brothwagon_velocity.Tie as tie

@@ -1,5 +1,4 @@
 -- `brothwagon::brothwagon_velocity_field` meets its contract: the operation, at the settings that the words stand for.
--- Assumes nothing.
 use borrow.Author.Needs.{needs}
 use Rattle.brothwagon.proofs.brothwagon_velocity_field.Statement.{statement}
 use Rattle.brothwagon.proofs.brothwagon_velocity_field.Tie as tie

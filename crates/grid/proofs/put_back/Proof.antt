@@ -1,5 +1,4 @@
 -- `grid::put_back` meets its contract: the nine stores, one after the other, are `put-nine`'s.
--- Assumes nothing.
 use borrow.Author.Needs.{needs}
 use Rattle.grid.proofs.Writes.{put-nine}
 use Rattle.grid.proofs.put_back.Statement.{statement}

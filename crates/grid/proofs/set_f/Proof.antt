@@ -1,5 +1,4 @@
 -- `grid::set_f` meets its contract: the place is within the buffer, so nothing wraps, and a store keeps the buffer's length.
--- Assumes nothing.
 use native.Mathlib.Omega.{arith}
 use borrow.Author.Needs.{needs}
 use lib.ListN.{length-set}

@@ -1,5 +1,4 @@
 -- `host::collision_at` meets its contract: the two words, as `collision_of_kind` reads them.
--- Assumes nothing.
 use borrow.Author.Needs.{needs}
 use Rattle.host.proofs.collision_at.Statement.{statement}
 use Rattle.host.proofs.collision_at.Tie as tie

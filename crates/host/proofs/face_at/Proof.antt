@@ -1,5 +1,4 @@
 -- `host::face_at` meets its contract: the three words, as `face_of_kind` reads them.
--- Assumes nothing.
 use borrow.Author.Needs.{needs}
 use Rattle.host.proofs.face_at.Statement.{statement}
 use Rattle.host.proofs.face_at.Tie as tie

@@ -1,5 +1,4 @@
 -- `host::face_of_kind` meets its contract: each arm is what `cond` picks where the tests are as they were found.
--- Assumes nothing.
 use borrow.Author.Tests.{eq-eqb, ne-eqb}
 use Rattle.number.proofs.Nan.{zero-by-zero}
 use Rattle.host.specs.Host.{faceOfKind}

@@ -1,5 +1,4 @@
 -- `host::settings_of` meets its contract, field by field.
--- Assumes nothing.
 use borrow.Author.Needs.{needs}
 use Rattle.host.specs.Host.{settingsOf}
 use Rattle.host.proofs.settings_of.Statement.{statement}

@@ -1,5 +1,4 @@
 -- `lattice::dir_index` meets its contract: the rows below i were passed.
--- Assumes nothing.
 use mathlib.Core.Path.{_≡_, refl, sym, _∙_}
 use Prim.Native.Nat.{_-_, _≤_}
 use native.Mathlib.Omega.{arith}

@@ -1,5 +1,4 @@
 -- `lattice::e_x` meets its contract: the table is the definition's, and the machine reads the integer back from its bits.
--- Assumes nothing.
 use mathlib.Core.Path.{ap}
 use lib.Ieee.{binary64, ofInt}
 use mir.ValLaws.{toZ-ofZ}

@@ -1,5 +1,4 @@
 -- `lattice::is_row` meets its contract: two i32 are equal exactly where their bits are.
--- Assumes nothing.
 use mathlib.Core.Path.{_≡_, refl, sym, ap, _∙_}
 use mathlib.Core.Bool.{Bool, true, false}
 use lib.Dec.{eqb}

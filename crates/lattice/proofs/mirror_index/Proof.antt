@@ -1,5 +1,4 @@
 -- `lattice::mirror_index` meets its contract: over the whole table, the i32 that are looked up are the mirrored components.
--- Assumes nothing.
 use mathlib.Core.Path.{_≡_, refl, sym, ap, _∙_}
 use mathlib.Core.Bool.{true}
 use Prim.Native.Nat.{ℕ, zero, suc, _^_, _<_}

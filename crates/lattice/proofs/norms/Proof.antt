@@ -1,5 +1,4 @@
 -- `lattice::norms` meets its contract: the table's f64 are the whole numbers.
--- Assumes nothing.
 use mathlib.Core.Path.{refl}
 use lib.Ieee.{ofBits, ofInt, neg}
 use Rattle.lattice.specs.Lattice.{norms, normFloats}

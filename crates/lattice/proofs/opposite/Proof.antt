@@ -1,5 +1,4 @@
 -- `lattice::opposite` meets its contract: the table is the definition's.
--- Assumes nothing.
 use mathlib.Core.Path.{refl}
 use Rattle.lattice.specs.Lattice.{opposites}
 use Rattle.lattice.proofs.Tables.{opposite-small}

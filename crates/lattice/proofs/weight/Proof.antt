@@ -1,5 +1,4 @@
 -- `lattice::weight` meets its contract: the table has the patterns of the definition's quotients.
--- Assumes nothing.
 use mathlib.Core.Path.{refl}
 use lib.Ieee.{ofBits, div}
 use Rattle.lattice.specs.Lattice.{weights}

@@ -1,5 +1,4 @@
 -- `line::answer_to` meets its contract: the answer, which has room, stands at the start of zeros.
--- Assumes nothing.
 use mathlib.Core.Path.{ap}
 use borrow.Author.Needs.{needs}
 use Rattle.line.specs.Text.{handed}

@@ -1,5 +1,4 @@
 -- `line::are_digits` meets its contract: the loop's invariant is that each byte passed is a digit.
--- Assumes nothing.
 use mathlib.Core.Path.{sym, _∙_}
 use Prim.Native.Nat.{_-_}
 use lib.ListN.{length}

@@ -1,5 +1,4 @@
 -- `line::are_letters` meets its contract: four bytes, each of them a letter.
--- Assumes nothing.
 use borrow.Author.Needs.{needs}
 use borrow.Author.Tests.{eq-eqb, ne-eqb}
 use Rattle.line.specs.Line.{areLetters}

@@ -1,5 +1,4 @@
 -- `line::are_sides` meets its contract: the part before the first space and the part after it.
--- Assumes nothing.
 use borrow.Author.Needs.{needs}
 use Rattle.line.specs.Line.{areSides}
 use Rattle.line.proofs.Words.{up-to, from-on}

@@ -1,5 +1,4 @@
 -- `line::asked` meets its contract: a readable line has its letters at its start, and its sides after the first space.
--- Assumes nothing.
 use Prim.Native.Nat.{_≤_}
 use native.Mathlib.Omega.{arith}
 use lib.ListN.{length}

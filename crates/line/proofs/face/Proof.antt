@@ -1,5 +1,4 @@
 -- `line::face` meets its contract: its tests are those of the definition, in the same order.
--- Assumes nothing.
 use borrow.Author.Tests.{eq-eqb, ne-eqb}
 use Rattle.line.specs.Line.{faceOfLetter}
 use Rattle.line.proofs.face.Statement.{statement}

@@ -1,5 +1,4 @@
 -- `line::first_side` meets its contract: the number that stands before the first space.
--- Assumes nothing.
 use borrow.Author.Needs.{needs}
 use Rattle.line.proofs.Words.{up-to}
 use Rattle.line.proofs.Parts.{both-sides}

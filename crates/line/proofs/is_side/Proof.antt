@@ -1,5 +1,4 @@
 -- `line::is_side` meets its contract: its tests are those of the definition, in the same order.
--- Assumes nothing.
 use borrow.Author.Needs.{needs}
 use Rattle.line.specs.Line.{isSide}
 use Rattle.line.proofs.is_side.Statement.{statement}

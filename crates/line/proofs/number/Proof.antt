@@ -1,5 +1,4 @@
 -- `line::number` meets its contract: the loop's invariant is that the digits passed say n, and a side's digits do not wrap.
--- Assumes nothing.
 use Prim.Native.Nat.{_-_}
 use native.Mathlib.Omega.{arith}
 use lib.ListN.{length}

@@ -1,5 +1,4 @@
 -- `line::put` meets its contract: the loop's invariant is that the first k bytes of the text are put.
--- Assumes nothing.
 use Prim.Native.Nat.{_-_}
 use lib.ListN.{length}
 use borrow.Author.Needs.{needs}

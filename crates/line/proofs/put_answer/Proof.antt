@@ -1,5 +1,4 @@
 -- `line::put_answer` meets its contract: each answer has its own words.
--- Assumes nothing.
 use borrow.Author.Needs.{needs}
 use Rattle.line.specs.Line.{worded}
 use Rattle.line.proofs.put_answer.Statement.{statement}

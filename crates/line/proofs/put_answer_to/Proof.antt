@@ -1,5 +1,4 @@
 -- `line::put_answer_to` meets its contract: a readable line is asked, and any other is unreadable.
--- Assumes nothing.
 use mathlib.Core.Path.{_≡_, sym, ap, _∙_}
 use denote.Ref.{now}
 use borrow.Author.Needs.{needs}

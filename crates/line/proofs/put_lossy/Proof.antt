@@ -1,5 +1,4 @@
 -- `line::put_lossy` meets its contract: its texts one after the other, each with room.
--- Assumes nothing.
 use Prim.Native.Nat.{_+_, _≤_, zero-le}
 use native.Mathlib.Omega.{arith}
 use lib.ListN.{length}

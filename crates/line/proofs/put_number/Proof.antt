@@ -1,5 +1,4 @@
 -- `line::put_number` meets its contract: the digits that `io::decimal` finds are those of the definition.
--- Assumes nothing.
 use mathlib.Core.Path.{ap, _∙_}
 use native.Mathlib.Omega.{arith}
 use lib.ListN.{length}

@@ -1,5 +1,4 @@
 -- `line::put_refused` meets its contract: its texts one after the other, each with room.
--- Assumes nothing.
 use Prim.Native.Nat.{zero-le}
 use native.Mathlib.Omega.{arith}
 use borrow.Author.Needs.{needs}

@@ -1,5 +1,4 @@
 -- `line::readable` meets its contract: the letters stand before the first space, and the sides after it.
--- Assumes nothing.
 use borrow.Author.Needs.{needs}
 use Rattle.line.specs.Line.{readable}
 use Rattle.line.proofs.Words.{up-to, from-on}

@@ -1,5 +1,4 @@
 -- `line::rest` meets its contract: one place after the space that ends the word, if there is one.
--- Assumes nothing.
 use native.Mathlib.Omega.{arith}
 use borrow.Author.Needs.{needs}
 use Rattle.line.proofs.Words.{after-mark, after-end}

@@ -1,5 +1,4 @@
 -- `line::second_side` meets its contract: the number that stands after the first space.
--- Assumes nothing.
 use borrow.Author.Needs.{needs}
 use Rattle.line.proofs.Words.{from-on}
 use Rattle.line.proofs.Parts.{both-sides}

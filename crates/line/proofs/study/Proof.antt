@@ -1,5 +1,4 @@
 -- `line::study` meets its contract: each face is that of its letter.
--- Assumes nothing.
 use lib.Ieee.{ofBits}
 use borrow.Author.Needs.{needs}
 use Rattle.line.proofs.study.Statement.{statement}

@@ -1,5 +1,4 @@
 -- `lossless::lossless` meets its contract: what is not refused is answered by the closed criterion and the closed lowest entry.
--- Assumes nothing.
 use mathlib.Core.Path.{sym, ap, _∙_}
 use borrow.Author.Needs.{needs}
 use Rattle.settings.specs.Refusals as Refusals

@@ -1,5 +1,4 @@
 -- `lossless::lowest` meets its contract: its tests are those of the definition, in the same order.
--- Assumes nothing.
 use mathlib.Core.Path.{sym, _∙_}
 use borrow.Author.Needs.{needs}
 use Rattle.lossless.specs.Lossless.{lowest}

@@ -1,5 +1,4 @@
 -- `lossless::reverse` meets its contract: a refusal leaves the post-collision buffer, and else it is f carried back.
--- Assumes nothing.
 use mathlib.Core.Path.{sym, _∙_}
 use mathlib.Core.List.{List}
 use Prim.Native.Nat.{ℕ}

@@ -1,5 +1,4 @@
 -- `lossless::strays` meets its contract: it joins what the two faces are.
--- Assumes nothing.
 use borrow.Author.Needs.{needs}
 use Rattle.lossless.proofs.strays.Statement.{statement}
 use Rattle.lossless.proofs.strays.Tie as tie

@@ -1,5 +1,4 @@
 -- `lossless_line::main` meets its contract: what it writes is a part of the answer's array.
--- Assumes nothing.
 use borrow.Author.Needs.{needs}
 use Rattle.line.proofs.Handed.{counted}
 use Rattle.lossless_line.proofs.main.Statement.{statement}

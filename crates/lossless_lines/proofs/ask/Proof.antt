@@ -1,5 +1,4 @@
 -- `lossless_lines::ask` meets its contract: what it writes of an answer is a part of the answer's array.
--- Assumes nothing.
 use borrow.Author.Needs.{needs}
 use Rattle.line.proofs.Handed.{counted}
 use Rattle.lossless_lines.proofs.ask.Statement.{statement}

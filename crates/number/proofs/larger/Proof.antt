@@ -1,5 +1,4 @@
 -- `number::larger` meets its contract: each arm returns what `cond` picks where the tests are as they were found.
--- Assumes nothing.
 use Rattle.number.specs.Number.{largerOf}
 use Rattle.number.proofs.Nan.{differs-is-nan}
 use Rattle.number.proofs.larger.Statement.{statement}

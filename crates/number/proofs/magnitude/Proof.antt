@@ -1,5 +1,4 @@
 -- `number::magnitude` meets its contract: below 0 stands exactly what has its sign set and is not 0, and the format has one +0.
--- Assumes nothing.
 use mathlib.Core.Path.{_≡_, refl, sym, _∙_, subst}
 use mathlib.Core.Bool.{Bool, true, false, cond, _&&_}
 use Prim.Native.Nat.{ℕ, zero, suc, _+_, _*_, _<_}

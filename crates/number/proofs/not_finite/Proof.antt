@@ -1,5 +1,4 @@
 -- `number::not_finite` meets its contract: only a finite number lies between the two infinities.
--- Assumes nothing.
 use mathlib.Core.Path.{_≡_, refl}
 use mathlib.Core.Bool.{true, false, not, _&&_}
 use lib.Ieee.{Float, nan, inf, fin, lt, neg, div, ofBits}

@@ -1,5 +1,4 @@
 -- `number::pattern` meets its contract: a value differs from itself exactly where it is the NaN.
--- Assumes nothing.
 use borrow.Author.Needs.{needs}
 use Rattle.number.proofs.Nan.{value-no-nan, nan-pattern}
 use Rattle.number.proofs.pattern.Statement.{statement}

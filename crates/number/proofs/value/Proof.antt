@@ -1,5 +1,4 @@
 -- `number::value` meets its contract. The test is `nanBits-above`'s: with the sign's bit taken off, a NaN's pattern is above the infinity's.
--- Assumes nothing.
 use mathlib.Core.Path.{_∙_, sym}
 use borrow.Author.Needs.{needs}
 use Rattle.number.proofs.Nan.{pattern-is-nan, pattern-no-nan, zero-by-zero}

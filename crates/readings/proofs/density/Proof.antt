@@ -1,5 +1,4 @@
 -- `readings::density` meets its contract: past the refusal (x, y) is a cell of the grid.
--- Assumes nothing.
 use mathlib.Core.Path.{sym, _∙_}
 use Prim.Native.Nat.{_+_, _*_}
 use native.Mathlib.Omega.{arith}

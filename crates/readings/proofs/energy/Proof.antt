@@ -1,5 +1,4 @@
 -- `readings::energy` meets its contract. The loop's invariant: the cells below c are summed.
--- Assumes nothing.
 use Prim.Native.Nat.{_-_}
 use native.Mathlib.Omega.{arith}
 use borrow.Author.Needs.{needs}

@@ -1,5 +1,4 @@
 -- `readings::initial_moments` meets its contract: the three entries of cell c are within the table.
--- Assumes nothing.
 use borrow.Author.Needs.{needs}
 use Rattle.readings.specs.Readings.{initialMoments}
 use Rattle.readings.proofs.initial_moments.Statement.{statement}

@@ -1,5 +1,4 @@
 -- `readings::initialize` meets its contract: past the refusal the sides and both lengths are right.
--- Assumes nothing.
 use mathlib.Core.Path.{sym, _∙_}
 use borrow.Author.Needs.{needs}
 use denote.Ref.{now}

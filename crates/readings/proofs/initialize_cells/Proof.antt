@@ -1,5 +1,4 @@
 -- `readings::initialize_cells` meets its contract. The loop's invariant: the cells below c are written, and c is at most the number of cells.
--- Assumes nothing.
 use Prim.Native.Nat.{_-_, _≤_}
 use native.Mathlib.Nat.{le-antisymm}
 use native.Mathlib.Omega.{arith}

@@ -1,5 +1,4 @@
 -- `readings::plane` meets its contract: past the refusal direction i's entries are within the buffer.
--- Assumes nothing.
 use mathlib.Core.Path.{_≡_, refl, sym, _∙_}
 use mathlib.Core.List.{List}
 use Prim.Native.Nat.{ℕ, _+_, _-_, _*_, _≤_}

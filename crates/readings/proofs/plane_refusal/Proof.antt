@@ -1,5 +1,4 @@
 -- `readings::plane_refusal` meets its contract, which is that of the settings' own refusal.
--- Assumes nothing.
 use borrow.Author.Needs.{needs}
 use Rattle.readings.proofs.plane_refusal.Statement.{statement}
 use Rattle.readings.proofs.plane_refusal.Tie as tie

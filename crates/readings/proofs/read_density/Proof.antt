@@ -1,5 +1,4 @@
 -- `readings::read_density` meets its contract: the cell is gathered and read.
--- Assumes nothing.
 use borrow.Author.Needs.{needs}
 use Rattle.readings.proofs.read_density.Statement.{statement}
 use Rattle.readings.proofs.read_density.Tie as tie

@@ -1,5 +1,4 @@
 -- `readings::read_velocity` meets its contract: the cell is gathered and read.
--- Assumes nothing.
 use borrow.Author.Needs.{needs}
 use Rattle.readings.proofs.read_velocity.Statement.{statement}
 use Rattle.readings.proofs.read_velocity.Tie as tie

@@ -1,5 +1,4 @@
 -- `readings::total_mass` meets its contract: past the refusal the populations are those of the grid.
--- Assumes nothing.
 use mathlib.Core.Path.{sym, _∙_}
 use borrow.Author.Needs.{needs}
 use Rattle.number.specs.Number.{c0}

@@ -1,5 +1,4 @@
 -- `readings::velocity_cells` meets its contract. The loop's invariant: the cells below c are written, and c is at most their number.
--- Assumes nothing.
 use Prim.Native.Nat.{_-_, _*_, _≤_}
 use native.Mathlib.Omega.{arith}
 use lib.ListN.{length-set}

@@ -1,5 +1,4 @@
 -- `settings::face_bad` meets its contract: each kind has its own numbers to test.
--- Assumes nothing.
 use borrow.Author.Needs.{needs}
 use Rattle.settings.specs.Tests.{faceBad}
 use Rattle.settings.proofs.face_bad.Statement.{statement}

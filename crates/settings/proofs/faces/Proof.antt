@@ -1,5 +1,4 @@
 -- `settings::faces` meets its contract: the number goes by the four faces, each with its own normal.
--- Assumes nothing.
 use borrow.Author.Needs.{needs}
 use Rattle.settings.specs.Tests.{facesBad}
 use Rattle.settings.proofs.faces.Statement.{statement}

@@ -1,5 +1,4 @@
 -- `settings::force` meets its contract: the number goes by both components.
--- Assumes nothing.
 use borrow.Author.Needs.{needs}
 use Rattle.settings.specs.Tests.{forceBad}
 use Rattle.settings.proofs.force.Statement.{statement}

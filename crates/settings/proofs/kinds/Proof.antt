@@ -1,5 +1,4 @@
 -- `settings::kinds` meets its contract: the number goes by the four faces.
--- Assumes nothing.
 use borrow.Author.Needs.{needs}
 use Rattle.settings.specs.Tests.{driven}
 use Rattle.settings.proofs.kinds.Statement.{statement}

@@ -1,5 +1,4 @@
 -- `settings::kinetic_energy_refusal` meets its contract: each test's number stands before the later ones, in the call's own order.
--- Assumes nothing.
 use borrow.Author.Needs.{needs}
 use Rattle.settings.proofs.kinetic_energy_refusal.Statement.{statement}
 use Rattle.settings.proofs.kinetic_energy_refusal.Tie as tie

@@ -1,5 +1,4 @@
 -- `settings::length_bad` meets its contract: a length divides by `per` and nx to give ny, with nothing left, exactly where it is per·nx·ny.
--- Assumes nothing.
 use mathlib.Core.Path.{_≡_, refl, sym, ap}
 use mathlib.Core.Bool.{Bool, true, false, not, _||_}
 use Prim.Native.Nat.{ℕ, _*_, _/_, _%_, _≤_}

@@ -1,5 +1,4 @@
 -- `settings::lengths` meets its contract: the number goes by its test.
--- Assumes nothing.
 use borrow.Author.Needs.{needs}
 use Rattle.settings.proofs.lengths.Statement.{statement}
 use Rattle.settings.proofs.lengths.Tie as tie

@@ -1,5 +1,4 @@
 -- `settings::losses` meets its contract: the number goes by its test.
--- Assumes nothing.
 use borrow.Author.Needs.{needs}
 use Rattle.settings.proofs.losses.Statement.{statement}
 use Rattle.settings.proofs.losses.Tie as tie

@@ -1,5 +1,4 @@
 -- `settings::lossy` meets its contract: it joins the tests of the two axes and of the corners.
--- Assumes nothing.
 use borrow.Author.Needs.{needs}
 use Rattle.settings.specs.Tests.{lossy}
 use Rattle.settings.proofs.lossy.Statement.{statement}

@@ -1,5 +1,4 @@
 -- `settings::rate_bad` meets its contract: only a Trt collision carries a rate.
--- Assumes nothing.
 use borrow.Author.Needs.{needs}
 use Rattle.settings.specs.Tests.{rateBad}
 use Rattle.settings.proofs.rate_bad.Statement.{statement}

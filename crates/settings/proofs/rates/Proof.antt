@@ -1,5 +1,4 @@
 -- `settings::rates` meets its contract: the number goes by τ and the collision's rate.
--- Assumes nothing.
 use borrow.Author.Needs.{needs}
 use Rattle.settings.specs.Tests.{ratesBad}
 use Rattle.settings.proofs.rates.Statement.{statement}

@@ -1,5 +1,4 @@
 -- `settings::side_bad` meets its contract, whose limit is the code's.
--- Assumes nothing.
 use mathlib.Core.Path.{refl}
 use Rattle.settings.proofs.side_bad.Statement.{statement}
 use Rattle.settings.proofs.side_bad.Tie as tie

@@ -1,5 +1,4 @@
 -- `settings::sides` meets its contract: the number goes by its test.
--- Assumes nothing.
 use borrow.Author.Needs.{needs}
 use Rattle.settings.proofs.sides.Statement.{statement}
 use Rattle.settings.proofs.sides.Tie as tie

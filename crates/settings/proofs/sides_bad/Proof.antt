@@ -1,5 +1,4 @@
 -- `settings::sides_bad` meets its contract. Two sides that are not bad are at most `mostSide`, so their product fits.
--- Assumes nothing.
 use mathlib.Core.Path.{_≡_}
 use mathlib.Core.Bool.{false, _||_}
 use native.Mathlib.Nat.{mul-le-mul}

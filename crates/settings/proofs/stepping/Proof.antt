@@ -1,5 +1,4 @@
 -- `settings::stepping` meets its contract: each test's number stands before the later ones.
--- Assumes nothing.
 use borrow.Author.Needs.{needs}
 use Rattle.settings.proofs.stepping.Statement.{statement}
 use Rattle.settings.proofs.stepping.Tie as tie

@@ -1,5 +1,4 @@
 -- `settings::steps` meets its contract, whose limit is the code's.
--- Assumes nothing.
 use borrow.Author.Needs.{needs}
 use Rattle.settings.proofs.steps.Statement.{statement}
 use Rattle.settings.proofs.steps.Tie as tie

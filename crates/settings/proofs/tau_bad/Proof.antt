@@ -1,5 +1,4 @@
 -- `settings::tau_bad` meets its contract: it joins the two tests of τ.
--- Assumes nothing.
 use borrow.Author.Needs.{needs}
 use Rattle.settings.specs.Tests.{tauBad}
 use Rattle.settings.proofs.tau_bad.Statement.{statement}

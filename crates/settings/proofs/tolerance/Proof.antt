@@ -1,5 +1,4 @@
 -- `settings::tolerance` meets its contract: a number differs from itself exactly where it is the NaN.
--- Assumes nothing.
 use mathlib.Core.Path.{ap, _∙_}
 use mathlib.Core.Bool.{Bool, cond}
 use borrow.Author.Needs.{needs}

@@ -1,5 +1,4 @@
 -- `settings::unpaired` meets its contract: the two faces are told apart by which is periodic.
--- Assumes nothing.
 use mathlib.Core.Bool.{xor}
 use borrow.Author.Needs.{needs}
 use Rattle.settings.specs.Tests.{unpaired}

@@ -1,5 +1,4 @@
 -- `refusals::ruined::same` is safe and ends.
--- Assumes nothing.
 use Prim.Native.Nat.{_≤_, _-_}
 use borrow.Author.Needs.{needs}
 use Rattle.refusals.proofs.ruined.same.Statement.{statement}

@@ -1,5 +1,4 @@
 -- `refusals::show::kept` is safe and ends.
--- Assumes nothing.
 use Prim.Native.Nat.{_≤_, _-_}
 use lib.ListN.{length}
 use borrow.Author.Needs.{needs}

@@ -1,5 +1,4 @@
 -- `vectors::grids::show_cells` is safe and ends.
--- Assumes nothing.
 use borrow.Author.Needs.{needs}
 use Prim.Native.Nat.{_≤_, _-_}
 use mathlib.Core.Path.{_≡_}

@@ -1,5 +1,4 @@
 -- `vectors::grids::show_planes` is safe and ends.
--- Assumes nothing.
 use borrow.Author.Needs.{needs}
 use Prim.Native.Nat.{_≤_, _-_}
 use mathlib.Core.Path.{_≡_}
