@@ -107,7 +107,8 @@ pub fn put_back(f: &mut [u64], n: usize, c: usize, v: [f64; 9])
 // Copies the n entries of src from `from` on to dst from `to` on, every bit of them, and answers their raised patterns joined.
 pub fn copy(src: &[u64], from: usize, dst: &mut [u64], to: usize, n: usize) -> u64
     requires { ⌜ (from + n ≤ length (now src)) × (to + n ≤ length (now dst)) ⌝ }
-    ensures wrote { λ _. ⌜ Wrote (now (dst .entry)) (now (dst .exit)) to n (λ k. getD (now (src .entry)) (from + k) 0) ⌝ }
+    ensures wrote { λ _. ⌜ Wrote (now (dst .entry)) (now (dst .exit)) to n
+        (λ k. getD (now (src .entry)) (from + k) 0) ⌝ }
     ensures joined { λ r. ⌜ r ≡ joinedTo (λ k. getD (now (src .entry)) (from + k) 0) n ⌝ }
 {
     let mut all = 0;
