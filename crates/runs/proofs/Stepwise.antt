@@ -20,7 +20,7 @@ use Rattle.settings.specs.Outcome.{answer}
 use Rattle.settings.proofs.Laws.{known}
 use Rattle.streaming.specs.Streaming.{nextBuffer}
 use Rattle.streaming.specs.Turned.{carried}
-use Rattle.streaming.specs.Lines.{carriedJoin}
+use Rattle.streaming.specs.Carried.{carriedJoin}
 use Rattle.streaming.proofs.Carried.{carried-forward}
 use Rattle.streaming.proofs.Finite.{carried-finite}
 use Rattle.runs.specs.Passes.{Ready, Vouched, clearAfter}

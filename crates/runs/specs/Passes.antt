@@ -13,7 +13,7 @@ use Rattle.grid.specs.Finite.{AllFinite}
 use Rattle.cell.specs.declared.Moments.{Moments}
 use Rattle.cell.specs.Cell.{cellBy}
 use Rattle.settings.specs.declared.Settings.{Settings}
-use Rattle.streaming.specs.Lines.{carriedJoin}
+use Rattle.streaming.specs.Carried.{carriedJoin}
 use Rattle.runs.specs.declared.snapshot.Maxima.{Maxima}
 use Rattle.runs.specs.Steps.{collidedBuffer}
 
