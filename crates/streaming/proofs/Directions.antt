@@ -1,7 +1,8 @@
 -- The directions of the four faces, by computed tables over axis and side: which come in, and that they are three different ones.
 use mathlib.Core.Path.{_≡_, refl, sym, ap, _∙_, subst}
-use mathlib.Core.Bool.{Bool, true, false, _||_}
-use Prim.Native.Nat.{ℕ, _*_, _<_}
+use mathlib.Core.Bool.{Bool, true, false, _||_, false≢true}
+use Prim.Native.Nat.{ℕ, zero, suc, _*_, _<_}
+use lib.IntN.{ℤ, pos, negsuc, _+ℤ_, _*ℤ_}
 use native.Mathlib.Omega.{arith}
 use lib.Dec.{T, eqb}
 use borrow.Author.Tests.{eqb-true, eqb-false}
@@ -11,9 +12,9 @@ use Rattle.lattice.specs.declared.Axis.{Axis}
 use Rattle.lattice.specs.declared.Axis.the-variants.{X, Y}
 use Rattle.lattice.specs.declared.Side.{Side}
 use Rattle.lattice.specs.declared.Side.the-variants.{Min, Max}
-use Rattle.lattice.specs.Lattice.{directions}
+use Rattle.lattice.specs.Lattice.{directions, E}
 use Rattle.lattice.specs.Lookup.{isRow, lookup}
-use Rattle.lattice.specs.Sides.{incoming}
+use Rattle.lattice.specs.Sides.{normal, aboveZero, incoming}
 use Rattle.settings.specs.declared.Face.{Face}
 use Rattle.streaming.specs.declared.edge.Names.{Names}
 use Rattle.streaming.specs.declared.edge.Line.{Line}
@@ -41,6 +42,20 @@ incoming-table Y Max = refl
 
 pub comes-in : (a : Axis) (s : Side) (i : ℕ) → i < 9 → named (names a s) i ≡ incoming a s i
 comes-in a s = all-nine (named (names a s)) _ (incoming-table a s)
+
+-- AN ENTRY COMES IN exactly where e · n > 0, in whole numbers
+pub record Above (z : ℤ) : Type 0 where
+  pub less-one : ℕ
+  pub is : z ≡ pos (suc less-one)
+
+above : (z : ℤ) → aboveZero z ≡ true → Above z
+above (pos zero) h = absurd (false≢true h)
+above (pos (suc n)) h = record { less-one = n; is = refl }
+above (negsuc n) h = absurd (false≢true h)
+
+pub comes-in-where : (a : Axis) (s : Side) (i : ℕ) → let en = E i X *ℤ normal a s X +ℤ E i Y *ℤ normal a s Y in
+    (incoming a s i ≡ true → Above en) × (Above en → incoming a s i ≡ true)
+comes-in-where a s i = (above _, λ h. ap aboveZero (h .is))
 
 pub sound : (a : Axis) (s : Side) → Sound (names a s)
 unfolding directions names lookup isRow

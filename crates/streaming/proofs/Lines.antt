@@ -1,4 +1,4 @@
--- What a write along a face leaves alone: the laws that every loop along a face cites, over the entries that it writes.
+-- What a write along a face leaves alone: the laws that the loop along a face cites, over the entries that it writes.
 use mathlib.Core.Path.{_≡_, refl, _∙_, subst}
 use mathlib.Core.List.{List}
 use Prim.Native.Nat.{ℕ, _+_, _-_, _*_, _≤_, _<_}
