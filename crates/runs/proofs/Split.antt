@@ -13,7 +13,7 @@ use Rattle.settings.specs.Tests.{mostSteps, stepsBad}
 use Rattle.settings.specs.Refusals as Call
 use Rattle.settings.specs.Refusals.{first, tests, refusal}
 use Rattle.runs.specs.Passes.{Ready}
-use Rattle.runs.specs.Steps.{State, state, oneStep, steps, Stepped, left, runOf}
+use Rattle.runs.specs.Steps.{State, state, oneStep, steps, Stepped, runOf}
 use Rattle.runs.proofs.Stepwise.{step-ready, may-run, kept, ran}
 
 -- ---- the rule
