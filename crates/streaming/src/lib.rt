@@ -73,7 +73,7 @@ fn taken(e: Edge, c: usize, post: &[u64], f: &[u64]) -> Entries
     }
 }
 
-// Applies one face, whichever of the four, along its cells.
+// Applies one face, whichever of the four, along its cells. A periodic face leaves what streaming brought.
 fn face(s: Settings, axis: Axis, side: Side, back: bool, post: &[u64], f: &mut [u64])
     requires { ⌜ Lent (s .nx) (s .ny) (now post) (now f) × (back ≡ true → driven s ≡ false) ⌝ }
     ensures { λ _. ⌜ Faced s axis side back (now (post .entry)) (now (f .entry)) (now (f .exit)) ⌝ }
