@@ -1,9 +1,6 @@
 //! The levels of the processor that the library has, for programs that run on each in turn.
 
-#[path = "../../../hosts/rust/src/bin/brothwagon/level.rs"]
-mod level;
-
-pub use level::level;
+pub use brothwagon::level;
 use std::env;
 
 /// The variable of the environment by which a program that starts is told its level.

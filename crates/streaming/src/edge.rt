@@ -23,43 +23,20 @@ pub struct Names {
     pub nm: usize,
 }
 
-// Each by its number, which the lookup of its vector finds.
 fn names_of(axis: Axis, side: Side) -> Names
     ensures { λ r. ⌜ (r ≡ Faces.names axis side) × Sound r ⌝ }
 {
-    match axis {
-        Axis::X => match side {
-            Side::Min => Names {
-                n: 1,
-                t: 2,
-                tm: 4,
-                np: 5,
-                nm: 8,
-            },
-            Side::Max => Names {
-                n: 3,
-                t: 2,
-                tm: 4,
-                np: 6,
-                nm: 7,
-            },
-        },
-        Axis::Y => match side {
-            Side::Min => Names {
-                n: 2,
-                t: 1,
-                tm: 3,
-                np: 5,
-                nm: 6,
-            },
-            Side::Max => Names {
-                n: 4,
-                t: 1,
-                tm: 3,
-                np: 8,
-                nm: 7,
-            },
-        },
+    let g = lattice::frame_of(axis, side);
+    let n0 = g.n0;
+    let n1 = g.n1;
+    let t0 = g.t0;
+    let t1 = g.t1;
+    Names {
+        n: lattice::dir_index(n0, n1).direction,
+        t: lattice::dir_index(t0, t1).direction,
+        tm: lattice::dir_index(-t0, -t1).direction,
+        np: lattice::dir_index(n0 + t0, n1 + t1).direction,
+        nm: lattice::dir_index(n0 - t0, n1 - t1).direction,
     }
 }
 

@@ -41,12 +41,15 @@
 pub mod ffi;
 mod file;
 mod fingerprint;
+#[allow(unsafe_code)]
+mod level;
 mod refusal;
 mod settings;
 mod study;
 
 pub use file::{Start, StudyFile, Wrong};
 pub use fingerprint::fingerprint;
+pub use level::level;
 pub use refusal::Refusal;
 pub use settings::{Collision, Face, MAGIC_BOUNCE_BACK, Settings, trt_omega_minus};
 pub use study::{Lossless, OtherSides, Steady, Study, dir_index};

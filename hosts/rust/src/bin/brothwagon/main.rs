@@ -1,10 +1,8 @@
 //! The command `brothwagon`: runs a study file on the proved library.
 
-mod level;
 mod progress;
 
-use brothwagon::{Lossless, Refusal, Study, StudyFile, fingerprint};
-use level::level;
+use brothwagon::{Lossless, Refusal, Study, StudyFile, fingerprint, level};
 use progress::Progress;
 use std::env;
 use std::ffi::OsString;

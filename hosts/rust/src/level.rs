@@ -1,5 +1,5 @@
-//! The level of the processor that the library runs on. The library tells it to this repository's own programs alone: it is no
-//! part of the C interface (tools/symbols).
+//! The level of the processor that the library runs on, which it tells in Rust alone: it is no part of the C interface
+//! (tools/symbols).
 
 use std::ffi::{CStr, c_char};
 
@@ -7,7 +7,7 @@ unsafe extern "C" {
     fn brothwagon_level() -> *const c_char;
 }
 
-/// The level's name: x86-64, x86-64-v3 or x86-64-v4; on Arm, aarch64.
+/// The level of the processor that the library runs on: x86-64, x86-64-v3 or x86-64-v4; on Arm, aarch64.
 pub fn level() -> &'static str {
     // Safety: the library answers a constant of its own, which a zero byte ends.
     let name = unsafe { CStr::from_ptr(brothwagon_level()) };
