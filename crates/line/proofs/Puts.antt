@@ -7,7 +7,7 @@ use native.Mathlib.Numerals.{add-one}
 use native.Mathlib.Omega.{arith}
 use lib.ListN.{length, take, drop, set, getD, length-append, length-set}
 use lib.Seq.{take-at, drop-at, drop-drop, length-take-le, take-length, paste, paste-zero, paste-suc}
-use Rattle.line.specs.Text.{Put, made, putAt}
+use Rattle.line.specs.Text.{Placed, made, putAt}
 
 -- ---- byte by byte: out is o with the first k bytes of the text put
 
@@ -57,9 +57,9 @@ put-put s t at out h =
 -- where a text ends
 pub ends : (t : List ℕ) (at : ℕ) (out : List ℕ) {r : ℕ} {o : List ℕ} → made r o ≡ putAt t at out → r ≡ at + length t
 unfolding putAt
-ends t at out e = ap (λ (x : Put). x .end) e
+ends t at out e = ap (λ (x : Placed). x .end) e
 
 -- after t, which ends at r, what is put there stands after t
 pub then : (s t : List ℕ) (at : ℕ) (out : List ℕ) {r q : ℕ} {o p : List ℕ} → at ≤ length out → made r o ≡ putAt t at out
     → made q p ≡ putAt s r o → made q p ≡ putAt (t ++ s) at out
-then s t at out h e f = f ∙ ap (λ (x : Put). putAt s (x .end) (x .out)) e ∙ put-put s t at out h
+then s t at out h e f = f ∙ ap (λ (x : Placed). putAt s (x .end) (x .out)) e ∙ put-put s t at out h

@@ -20,7 +20,7 @@ use Rattle.lossless.specs.declared.Answer.{Answer}
 use Rattle.lossless.specs.declared.Answer.the-variants as The
 use Rattle.lossless.specs.Lossless.{lowest, lossyAt, losslessOf}
 use Rattle.line.specs.Text.{bytes, decimalIn}
-use Rattle.line.specs.Line.{newline, lineOf, mostBytes, readable, faceOfLetter, decimalOf, study, worded, answerTo, replyTo, Form}
+use Rattle.line.specs.Line.{newline, firstLine, mostBytes, readable, faceOfLetter, decimalOf, study, worded, answerTo, replyTo, Form}
 use Rattle.line.proofs.Words.{before-take, before-ended}
 use Rattle.line.proofs.Forms.{answered, not-readable}
 
@@ -97,7 +97,7 @@ cut line = go (decLe (length line) mostBytes)
         not-readable start (too-long start (omega arith)) ∙ sym (not-readable line (too-long line (omega arith)))
 
 pub cut-input : (input : List ℕ) → replyTo (take (suc mostBytes) input) ≡ replyTo input
-cut-input input = ap answerTo (before-take newline (suc mostBytes) input) ∙ cut (lineOf input)
+cut-input input = ap answerTo (before-take newline (suc mostBytes) input) ∙ cut (firstLine input)
 
 pub ended-input : (input rest : List ℕ) → replyTo (input ++ newline ∷ rest) ≡ replyTo input
 ended-input input rest = ap answerTo (before-ended newline input rest)

@@ -28,8 +28,8 @@ after mark (b ∷ rest) = cond (eqb b mark) rest (after mark rest)
 abbrev pub newline : ℕ
 newline = code "\n"
 
-abbrev pub lineOf : List ℕ → List ℕ
-lineOf input = before newline input
+abbrev pub firstLine : List ℕ → List ℕ
+firstLine input = before newline input
 
 -- ---- the form of a line: four letters and two sides, one space before each side
 
@@ -112,7 +112,7 @@ answerTo line = cond (readable line) (worded (losslessOf (asked line))) unreadab
 
 -- what is written for an input
 abbrev pub replyTo : List ℕ → List ℕ
-replyTo input = answerTo (lineOf input)
+replyTo input = answerTo (firstLine input)
 
 -- ---- the form as one equation: what answerTo says of it is shown in proofs/Forms.antt
 

@@ -31,19 +31,19 @@ decimal n = decimalIn (suc n) n
 -- ---- a text in a buffer
 
 -- where the text ends, and what the buffer holds
-pub record Put : Type 0 where
+pub record Placed : Type 0 where
   pub end : ℕ
   pub out : List ℕ
 
-abbrev pub made : ℕ → List ℕ → Put
+abbrev pub made : ℕ → List ℕ → Placed
 made end out = record { end = end; out = out }
 
 -- the text stands in the buffer from `at` on, and all else is as it was
-unfoldable pub putAt : List ℕ → ℕ → List ℕ → Put
+unfoldable pub putAt : List ℕ → ℕ → List ℕ → Placed
 putAt text at out = made (at + length text) (take at out ++ text ++ drop (at + length text) out)
 
 -- as it is handed back
-abbrev pub handed : Put → Text
+abbrev pub handed : Placed → Text
 handed p = record { bytes = p .out; count = p .end }
 
 -- room for any answer

@@ -24,7 +24,7 @@ use Rattle.streaming.specs.Carried.{carriedJoin}
 use Rattle.streaming.proofs.Carried.{carried-forward}
 use Rattle.streaming.proofs.Finite.{carried-finite}
 use Rattle.runs.specs.Passes.{Ready, Vouched, clearAfter}
-use Rattle.runs.specs.Steps.{collidedBuffer, State, state, oneStep, steps, left, after}
+use Rattle.runs.specs.Steps.{collidedBuffer, State, state, oneStep, steps, left, ranFor}
 
 -- ---- one step
 
@@ -91,12 +91,12 @@ pub ruleset going = (first-told, going-none, going-more, going-done, needs)
 
 -- ---- the outcomes of `step` and `run`, where the code found the number n and the rules give m
 
-pub kept : (s : Settings) (k : ℕ) {n m : ℕ} {f post : List ℕ} → n ≡ m → (n ≡ 0 → ⊥) → left n f post ≡ after m s k f post
+pub kept : (s : Settings) (k : ℕ) {n m : ℕ} {f post : List ℕ} → n ≡ m → (n ≡ 0 → ⊥) → left n f post ≡ ranFor m s k f post
 unfolding answer
 kept s k {n} e h = rw (← e, ne-eqb n 0 h)
 
 pub ran : (s : Settings) (k : ℕ) (f post : List ℕ) {n m : ℕ} {f' post' : List ℕ} → n ≡ m → n ≡ 0 → state f' post' ≡ steps s k (state f post)
-    → left 0 f' post' ≡ after m s k f post
+    → left 0 f' post' ≡ ranFor m s k f post
 unfolding answer
 ran s k f post {n} {m} e h q =
     let z : m ≡ 0 = sym e ∙ h in rw z (λ i. left 0 (q i .f) (q i .post))

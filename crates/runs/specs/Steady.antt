@@ -20,22 +20,22 @@ use Rattle.runs.specs.Steps.{State, state, steps}
 
 -- ---- the answer: the number and the values of each case
 
-abbrev pub numberOf : Steady → ℕ
-numberOf (Refused number) = number
-numberOf (Settled k r) = 0
-numberOf (RanOut k r) = 0
-numberOf (Ruined k) = 9
+abbrev pub steadyNumber : Steady → ℕ
+steadyNumber (Refused number) = number
+steadyNumber (Settled k r) = 0
+steadyNumber (RanOut k r) = 0
+steadyNumber (Ruined k) = 9
 
 pub record Values : Type 0 where
   pub settled : Bool
   pub steps : ℕ
   pub residual : Float
 
-abbrev pub valuesOf : Steady → Values
-valuesOf (Refused number) = record { settled = false; steps = 0; residual = c0 }
-valuesOf (Settled k r) = record { settled = true; steps = k; residual = r }
-valuesOf (RanOut k r) = record { settled = false; steps = k; residual = r }
-valuesOf (Ruined k) = record { settled = false; steps = k; residual = c0 }
+abbrev pub steadyValues : Steady → Values
+steadyValues (Refused number) = record { settled = false; steps = 0; residual = c0 }
+steadyValues (Settled k r) = record { settled = true; steps = k; residual = r }
+steadyValues (RanOut k r) = record { settled = false; steps = k; residual = r }
+steadyValues (Ruined k) = record { settled = false; steps = k; residual = c0 }
 
 -- ---- snapshots
 
@@ -108,7 +108,7 @@ pub record SteadyRun : Type 0 where
   pub u : List ℕ
 
 abbrev pub ended : Steady → State → List ℕ → SteadyRun
-ended a b u = record { answer = a; number = numberOf a; values = valuesOf a; f = b .f; post = b .post; u = u }
+ended a b u = record { answer = a; number = steadyNumber a; values = steadyValues a; f = b .f; post = b .post; u = u }
 
 -- what a check after step k, in the state `now`, makes of the run
 abbrev pub verdict : ℕ → State → Check → List ℕ → (List ℕ → Float → SteadyRun) → SteadyRun

@@ -47,14 +47,14 @@ abbrev pub left : ℕ → List ℕ → List ℕ → Stepped
 left number f post = record { number = number; f = f; post = post }
 
 -- n steps where nothing is refused, and else both buffers as they were
-abbrev pub after : ℕ → Settings → ℕ → List ℕ → List ℕ → Stepped
-after number s n f post =
+abbrev pub ranFor : ℕ → Settings → ℕ → List ℕ → List ℕ → Stepped
+ranFor number s n f post =
     let b = state f post in
     let e = answer number (steps s n b) b in
     left number (e .f) (e .post)
 
 abbrev pub stepOf : Settings → List ℕ → List ℕ → Stepped
-stepOf s f post = after (refusal (Refusals.step s (length f) (length post))) s 1 f post
+stepOf s f post = ranFor (refusal (Refusals.step s (length f) (length post))) s 1 f post
 
 abbrev pub runOf : Settings → ℕ → List ℕ → List ℕ → Stepped
-runOf s n f post = after (refusal (Refusals.run s n (length f) (length post))) s n f post
+runOf s n f post = ranFor (refusal (Refusals.run s n (length f) (length post))) s n f post
