@@ -28,6 +28,10 @@
  * that is lent (settings and answers too) overlaps. The caller's floating-point mode is the usual one: rounding to nearest
  * even, subnormals kept (no flush to zero, so no -ffast-math in the program that is linked). The library keeps nothing between
  * calls; calls on different buffers may run at the same time.
+ *
+ * The processor. On x86-64 the library takes the highest level (x86-64, x86-64-v3, x86-64-v4) that the machine has, as the program
+ * starts; every level gives the same bits. BROTHWAGON_LEVEL in the environment names a lower one. A word that is no level, or one
+ * that the machine lacks, is said on standard error, and the highest is taken.
  */
 #ifndef BROTHWAGON_H
 #define BROTHWAGON_H
