@@ -75,23 +75,25 @@ static void want_answer(uint64_t a, uint64_t b, uint64_t c, uint64_t d) {
     memcpy(wanted_answer, words, sizeof words);
 }
 
+/* The marked cases of the lossless question: the sides, the faces x min, x max, y min, y max, and the answer. */
+static const struct {
+    const char *name;
+    uint64_t nx, ny, faces[4], answer[4];
+} QUESTIONS[] = {
+    {"C4", 3, 2, {S, S, N, N}, {0, 2, 0, 5}},
+    {"C5", 3, 2, {N, N, S, S}, {1, 0, 0, 0}},
+    {"C6", 3, 1, {S, S, N, N}, {1, 0, 0, 0}},
+    {"C7", 3, 2, {N, P, P, P}, {0, 2, 0, 1}},
+};
+
 static void lossless(void) {
-    Call call = begin(3, 2, "C4");
-    set_faces(&call, S, S, N, N);
-    want_answer(0, 2, 0, 5);
-    done(&LOSSLESS, &call);
-    call = begin(3, 2, "C5");
-    set_faces(&call, N, N, S, S);
-    want_answer(1, 0, 0, 0);
-    done(&LOSSLESS, &call);
-    call = begin(3, 1, "C6");
-    set_faces(&call, S, S, N, N);
-    want_answer(1, 0, 0, 0);
-    done(&LOSSLESS, &call);
-    call = begin(3, 2, "C7");
-    set_faces(&call, N, P, P, P);
-    want_answer(0, 2, 0, 1);
-    done(&LOSSLESS, &call);
+    for (size_t k = 0; k < sizeof QUESTIONS / sizeof *QUESTIONS; k++) {
+        const uint64_t *faces = QUESTIONS[k].faces, *answer = QUESTIONS[k].answer;
+        Call call = begin(QUESTIONS[k].nx, QUESTIONS[k].ny, QUESTIONS[k].name);
+        set_faces(&call, faces[0], faces[1], faces[2], faces[3]);
+        want_answer(answer[0], answer[1], answer[2], answer[3]);
+        done(&LOSSLESS, &call);
+    }
 }
 
 static int stands_in(const double *f, size_t length, const double *entry) {
