@@ -137,7 +137,7 @@ tells (lent h per len) e = length-ok (h .nx) (h .ny) per len e
 -- ---- what a call that is not refused tells
 
 -- the number is 0, so the test does not hold, and the later ones give 0
-none : (bad : Bool) (number later : ℕ) → T (ltb 0 number) → cond bad number later ≡ 0 → (bad ≡ false) × (later ≡ 0)
+pub none : (bad : Bool) (number later : ℕ) → T (ltb 0 number) → cond bad number later ≡ 0 → (bad ≡ false) × (later ≡ 0)
 none true zero later h e = absurd h
 none true (suc n) later h e = absurd (omega (arith, e))
 none false number later h e = (refl, e)

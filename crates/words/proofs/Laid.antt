@@ -1,7 +1,7 @@
 -- Bytes that are written: number after number, and lists that meet.
 use mathlib.Core.Path.{_≡_, refl, sym, ap, _∙_}
-use mathlib.Core.List.{List, _++_}
-use Prim.Native.Nat.{ℕ, _+_, _*_, _<_}
+use mathlib.Core.List.{List, [], _++_}
+use Prim.Native.Nat.{ℕ, zero, suc, _+_, _*_, _<_}
 use native.Mathlib.Nat.{zero-add}
 use native.Mathlib.Omega.{arith}
 use lib.ListN.{length, getD, set, length-append, List·getD-append}
@@ -9,7 +9,7 @@ use lib.Seq.{ext-getD, getD-append-add}
 use Rattle.grid.specs.Writes.{Wrote}
 use Rattle.grid.proofs.Writes.{one-more, join, same-values, to-length}
 use Rattle.words.specs.Words.{big, bigs, numberAt, numbersAt, Laid}
-use Rattle.words.proofs.Words.{big-length, bigs-at, numbers-length, numbers-at}
+use Rattle.words.proofs.Words.{Bytes, big-length, bigs-at, numbers-length, numbers-at, bytes-of}
 
 -- ---- numbers of eight bytes, one more
 
@@ -47,3 +47,20 @@ pub laid-all : (d e l : List ℕ) → Laid d e 0 l → length d ≡ length l →
 laid-all d e l w size =
     ext-getD 0 e l (w .size ∙ size)
     (λ k h. ap (λ (i : ℕ). getD e i 0) (sym (zero-add k)) ∙ w .inside k (omega (arith, w .size)))
+
+-- ---- BYTES THAT STAND IN A BUFFER: as written, where nothing has changed
+
+pub standing : (b l : List ℕ) (at : ℕ) → ((k : ℕ) → k < length l → getD b (at + k) 0 ≡ getD l k 0) → Laid b b at l
+standing b l at here = record { size = refl; inside = here; below = λ j h. refl; above = λ j h. refl }
+
+pub number-stands : (b : List ℕ) (at n : ℕ) → Bytes b → Laid b b at (big n (numberAt n b at))
+number-stands b at n bytes =
+    standing b (big n (numberAt n b at)) at
+    (λ k h. sym (bytes-of b at bytes n k (omega (arith, big-length n (numberAt n b at)))))
+
+pub numbers-stand : (b : List ℕ) (at n count : ℕ) → Bytes b → Laid b b at (bigs n (numbersAt n count b at))
+unfolding numbersAt bigs
+numbers-stand b at n zero bytes = standing b [] at (λ k h. absurd (omega arith))
+numbers-stand b at n (suc count) bytes =
+    laid-append b b b (big n (numberAt n b at)) (bigs n (numbersAt n count b (at + n))) at (number-stands b at n bytes)
+    (rw (big-length n (numberAt n b at)) (numbers-stand b (at + n) n count bytes))

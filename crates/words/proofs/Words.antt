@@ -2,13 +2,13 @@
 use mathlib.Core.Path.{_≡_, refl, sym, ap, ap₂, _∙_}
 use mathlib.Core.List.{List, [], _∷_, _++_}
 use Prim.Native.Nat.{ℕ, zero, suc, _+_, _-_, _*_, _/_, _%_, _^_, _≤_, _<_}
-use native.Mathlib.Nat.{div-eq-of-lt, div-add-mod', div-div-eq-div-mul, div-one, pow-suc, mul-comm, le-of-suc-le-suc}
+use native.Mathlib.Nat.{div-eq-of-lt, div-add-mod', div-div-eq-div-mul, div-one, pow-suc, mul-comm, zero-add, le-of-suc-le-suc}
 use native.Mathlib.Numerals.{add-one}
 use native.Mathlib.Omega.{arith}
 use lib.Pow.{pow-add, pow-mono}
 use lib.Arith.{digits-div, digits-mod}
 use lib.ListN.{length, getD, length-append, List·getD-append}
-use lib.Seq.{getD-append-add}
+use lib.Seq.{ext-getD, getD-append-add}
 use Rattle.words.specs.Words.{byteOf, big, bigs, numberAt, numbersAt}
 
 -- every entry is a byte
@@ -123,14 +123,25 @@ module _ (b : List ℕ) (at : ℕ) (bytes : Bytes b) where
   below zero = omega arith
   below (suc n) = rw (pow-suc 256 n) (omega (arith, below n, bytes .byte (at + n)))
 
--- ---- numbers at a place of a longer list
+-- ---- THE NUMBERS OF WRITTEN BYTES
 
--- in the same bytes stands the same number
-pub same-number : (n : ℕ) (b c : List ℕ) (at to : ℕ) → ((k : ℕ) → k < n → getD b (at + k) 0 ≡ getD c (to + k) 0) → numberAt n b at ≡ numberAt n c to
-unfolding numberAt
-same-number zero b c at to e = refl
-same-number (suc n) b c at to e =
-    ap₂ (λ (a d : ℕ). a * 256 + d) (same-number n b c at to (λ k h. e k (omega arith))) (e n (omega arith))
+pub number-of : (n v : ℕ) → v < 256 ^ n → numberAt n (big n v) 0 ≡ v
+number-of n v h = spelled (big n v) 0 n v (λ k l. ap (λ (j : ℕ). getD (big n v) j 0) (zero-add k)) h
+
+-- behind other bytes
+pub numbers-of : (n : ℕ) (l f : List ℕ) → ((k : ℕ) → getD f k 0 < 256 ^ n) → numbersAt n (length f) (l ++ bigs n f) (length l) ≡ f
+numbers-of n l f fits =
+    ext-getD 0 (numbersAt n (length f) b (length l)) f (numbers-length n (length f) b (length l))
+    (λ k h. let m : k < length f = omega (arith, numbers-length n (length f) b (length l)) in
+    numbers-at n (length f) b (length l) k m ∙ spelled b (length l + n * k) n (getD f k 0) (here k m) (fits k))
+  where
+    b : List ℕ
+    b = l ++ bigs n f
+
+    here : (k : ℕ) → k < length f → (j : ℕ) → j < n → getD b (length l + n * k + j) 0 ≡ getD (big n (getD f k 0)) j 0
+    here k m j h =
+        let p : length l + n * k + j ≡ length l + (n * k + j) = omega arith in
+        ap (λ (i : ℕ). getD b i 0) p ∙ getD-append-add l (bigs n f) (n * k + j) 0 ∙ bigs-at n f k j m h
 
 -- ---- what the code computes with
 
