@@ -37,6 +37,7 @@
 
 #![deny(missing_docs, unsafe_code)]
 
+mod checkpoint;
 #[allow(unsafe_code)]
 pub mod ffi;
 mod file;
@@ -47,6 +48,7 @@ mod refusal;
 mod settings;
 mod study;
 
+pub use checkpoint::Checkpoint;
 pub use file::{Start, StudyFile, Wrong};
 pub use fingerprint::fingerprint;
 pub use level::level;
