@@ -94,8 +94,7 @@ impl Checkpoint {
 
 /// The checkpoint file of these populations under the settings' sides.
 pub(crate) fn file_of(settings: &ffi::Settings, step: u32, f: &[f64]) -> Result<Vec<u8>, Refusal> {
-    // 13 bytes, then the entries. The length goes by f, not by the sides, so that no sides make it overflow: the library
-    // refuses an f that does not fit them.
+    // 13 bytes stand before the entries. By f, not by the sides, the length cannot overflow, whatever the sides are.
     let mut file = vec![0; 13 + size_of_val(f)];
     Refusal::of(ffi::write_checkpoint(settings, step, f, &mut file)).map(|()| file)
 }
