@@ -5,7 +5,7 @@ mod document;
 
 use asked::{failed, out, path, study, value};
 use std::fs::{self, Permissions};
-use std::os::unix::fs::{PermissionsExt, symlink};
+use std::os::unix::fs::{FileExt, PermissionsExt, symlink};
 use std::process::{Command, Stdio};
 use std::thread::sleep;
 use std::time::{Duration, Instant};
@@ -80,7 +80,7 @@ fn checkpoints_along_the_way_are_those_that_shorter_runs_save() {
     let made = folder("along");
     let flow = study("along", "sides 5 4\nviscosity 0.1\nforce 1e-5 0\nstart shear 1 0.1 0.02\nsteps 35\n");
     let said = out(&format!("run {flow} --every 10 --into {made}/all --save {made}/end"));
-    assert!(value(&said, "saved in").ends_with("all: 3 checkpoints"), "{said}");
+    assert!(value(&said, "checkpoints").starts_with("3 in "), "{said}");
     assert!(value(&said, "saved as").ends_with("end"), "{said}");
     let expected = ["step-0000000010.checkpoint", "step-0000000020.checkpoint", "step-0000000030.checkpoint"];
     assert_eq!(names(&format!("{made}/all")), expected);
@@ -92,10 +92,14 @@ fn checkpoints_along_the_way_are_those_that_shorter_runs_save() {
     // From step 20 on, in sevens: 21 and 28, of which the second is the end.
     let from = format!("--from {made}/all/{}", expected[1]);
     let said = out(&format!("run {flow} --steps 8 {from} --into {made}/sevens --every 7"));
-    assert!(value(&said, "saved in").ends_with("sevens: 2 checkpoints"), "{said}");
+    assert!(value(&said, "checkpoints").starts_with("2 in "), "{said}");
     assert_eq!(names(&format!("{made}/sevens")), ["step-0000000021.checkpoint", "step-0000000028.checkpoint"]);
     out(&format!("run {flow} --steps 28 --save {made}/short"));
     assert_eq!(bytes(&format!("{made}/sevens/step-0000000028.checkpoint")), bytes(&format!("{made}/short")));
+
+    // The end may be saved in the folder that is made.
+    out(&format!("run {flow} --steps 8 --every 9 --into {made}/new --save {made}/new/end"));
+    assert_eq!(names(&format!("{made}/new")), ["end"]);
 }
 
 #[test]
@@ -132,9 +136,23 @@ fn a_checkpoint_that_is_refused_is_named_with_the_number() {
 }
 
 #[test]
-fn a_file_longer_than_any_checkpoint_is_refused_and_not_read_to_its_end() {
-    let (status, said) = failed("show /dev/zero");
-    assert_eq!(status, Some(1));
+fn the_largest_file_is_read_and_one_without_end_is_not() {
+    let made = folder("largest");
+    let largest = format!("{made}/largest");
+    put(&largest, &document::checkpoint(4096, 256, 350, &[]));
+    let file = fs::OpenOptions::new().write(true).open(path(&largest)).unwrap();
+    let count: u32 = 9 + 72 * 4096 * 256;
+    file.write_all_at(&count.to_be_bytes(), 0).unwrap();
+    file.set_len(4 + u64::from(count)).unwrap();
+    // That it is accepted shows by its sides, which are not the study's.
+    let cell = study("largest", "sides 1 1\nviscosity 0.1\nsteps 5\n");
+    let (_, said) = failed(&format!("run {cell} --from {largest}"));
+    assert!(said.ends_with("holds a state of 4096 by 256\n"), "{said}");
+
+    file.set_len(5 + u64::from(count)).unwrap();
+    let (_, said) = failed(&format!("show {largest}"));
+    assert!(said.contains("largest: refused with number 15: "), "{said}");
+    let (_, said) = failed("show /dev/zero");
     assert!(said.contains("/dev/zero: refused with number 13: "), "{said}");
 }
 
@@ -178,7 +196,7 @@ fn a_place_that_cannot_be_read_or_written_is_said_before_the_run() {
     fs::set_permissions(path(&format!("{made}/kept")), Permissions::from_mode(0o444)).unwrap();
     assert!(Command::new("mkfifo").arg(path(&format!("{made}/pipe"))).status().unwrap().success());
     let cell = study("places", "sides 1 1\nviscosity 0.1\nsteps 5\n");
-    // If a step were taken before, there would be its checkpoint in `all`.
+    // A step that was taken would leave its checkpoint in `all`.
     let cases = [
         ("--every 1 --into MADE/places/all --from MADE/places/missing", 2, "missing: No such file"),
         ("--every 1 --into MADE/places/all --from MADE/places", 2, "places: Is a directory"),
@@ -196,7 +214,8 @@ fn a_place_that_cannot_be_read_or_written_is_said_before_the_run() {
         assert_eq!(status, Some(expected), "{words}: {said}");
         assert!(said.contains(why), "{words}: {said}");
     }
-    assert_eq!(names(&made), ["file", "kept", "pipe"]);
+    assert_eq!(names(&made), ["all", "file", "kept", "pipe"]);
+    assert!(names(&format!("{made}/all")).is_empty());
     assert_eq!(bytes("MADE/places/kept"), b"kept");
 }
 
@@ -231,6 +250,19 @@ fn a_link_is_followed_and_stays() {
     assert!(fs::symlink_metadata(path(&format!("{made}/link"))).unwrap().is_symlink());
     assert_eq!(bytes(&format!("{made}/far/real")).len(), 85);
     assert_eq!(names(&format!("{made}/far")), ["real"]);
+}
+
+#[test]
+fn what_a_killed_process_of_the_same_number_left_stays() {
+    let made = folder("same");
+    let cell = study("same", "sides 1 1\nviscosity 0.1\nsteps 5\n");
+    let left = "cd \"$1\"; echo left >brothwagon-$$-0.unfinished; exec \"$0\" run \"$2\" --save end";
+    let words = [env!("CARGO_BIN_EXE_brothwagon"), &path(&made), &path(&cell)];
+    assert!(Command::new("sh").args(["-c", left]).args(words).stdout(Stdio::null()).status().unwrap().success());
+    let names = names(&made);
+    assert!(names.len() == 2 && names[1] == "end", "{names:?}");
+    assert_eq!(bytes(&format!("{made}/{}", names[0])), b"left\n");
+    assert_eq!(bytes(&format!("{made}/end")).len(), 85);
 }
 
 /// A run of four steps, each saved in a folder where the four files are already those of another run.

@@ -82,6 +82,9 @@ impl<'a> Draft<'a> {
             (None, Some(_)) => return Err("--into asks for --every N".to_string()),
             (None, None) => None,
         };
+        if self.save.is_some() && self.save == self.study {
+            return Err("--save would replace the study".to_string());
+        }
         let steps = |word: &str| word.parse().map_err(|_| format!("--steps takes a whole number, not `{word}`"));
         Ok(Options {
             study: self.study.ok_or("run takes a study; brothwagon --help says more")?.to_string(),
@@ -145,6 +148,7 @@ mod tests {
         assert_eq!(wrong("--from --save b a"), "--from takes a checkpoint file, not `--save`");
         assert_eq!(wrong("a --steps -1"), "--steps takes a whole number, not `-1`");
         assert_eq!(wrong("a --every 0 --into b"), "--every takes a whole number, at least 1, not `0`");
+        assert_eq!(wrong("a --save a"), "--save would replace the study");
         assert_eq!(wrong("a --every 1"), "--every asks for --into FOLDER");
         assert_eq!(wrong("a --into b"), "--into asks for --every N");
     }

@@ -22,16 +22,16 @@ impl<'a> Saves<'a> {
     }
 
     /// Finds out before a run what would stop it later: a step number that the file has no room for, a name that cannot be
-    /// written. Makes the folder if it is missing.
+    /// written. Makes the folder if it is missing: the end may be saved there too.
     pub fn prepare(&self, first: u32, steps: u64) -> Result<(), Failure> {
         if (self.every.is_some() || self.end.is_some()) && steps > u64::from(u32::MAX - first) {
             let room = format!("a checkpoint's step number is at most {}", u32::MAX);
             return Err(Failure::Refused(format!("{steps} steps from step {first} on cannot be saved: {room}")));
         }
-        if let Some(path) = self.end {
-            whole::test(path).map_err(|why| Failure::unsaved(path, why))?;
+        if let Some(every) = self.every {
+            prepare_folder(Path::new(&every.into))?;
         }
-        self.every.map_or(Ok(()), |every| prepare_folder(Path::new(&every.into)))
+        self.end.map_or(Ok(()), |path| whole::test(path).map_err(|why| Failure::unsaved(path, why)))
     }
 
     /// Steps from this one to the next that is saved along the way, if there is one.
@@ -55,7 +55,7 @@ impl<'a> Saves<'a> {
     /// Says what was saved between these two steps.
     pub fn answer(&self, out: &mut impl Write, first: u64, last: u64) -> io::Result<()> {
         if let Some(Every { steps, into }) = self.every {
-            line(out, "saved in", format!("{into}: {} checkpoints", last / steps - first / steps))?;
+            line(out, "checkpoints", format!("{} in {into}", last / steps - first / steps))?;
         }
         self.end.map_or(Ok(()), |path| line(out, "saved as", path.display()))
     }
