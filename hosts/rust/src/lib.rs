@@ -2,7 +2,8 @@
 //!
 //! The arithmetic is the proved library's; this crate lends it buffers and turns its numbers into a [`Refusal`]. Every
 //! operation ends on every input, and a refused one leaves every buffer as it was, but for a steady run that meets a bad
-//! snapshot (number 9). The floating-point mode is the caller's, and must be the usual one: include/brothwagon.h says which.
+//! snapshot (number 9). A state is stored and passed on as a [`Checkpoint`]. The floating-point mode is the caller's, and must
+//! be the usual one: include/brothwagon.h says which.
 //!
 //! A cavity whose lid moves to the right:
 //!

@@ -292,7 +292,7 @@ impl Killed {
         bytes(&format!("{}/{}", self.folder, FOUR[at]))
     }
 
-    /// Runs until it is time, then kills it.
+    /// Runs until it is time or it ends by itself, and kills it.
     fn run(&self, time: impl Fn(Duration) -> bool) -> Duration {
         for (name, old) in FOUR.iter().zip(&self.old) {
             put(&format!("{}/{name}", self.folder), old);
@@ -300,7 +300,7 @@ impl Killed {
         let mut command = Command::new(env!("CARGO_BIN_EXE_brothwagon"));
         let mut run = command.args(self.words.split(' ').map(path)).stdout(Stdio::null()).spawn().unwrap();
         let began = Instant::now();
-        while !time(began.elapsed()) {
+        while !time(began.elapsed()) && run.try_wait().unwrap().is_none() {
             sleep(Duration::from_micros(200));
         }
         run.kill().unwrap();

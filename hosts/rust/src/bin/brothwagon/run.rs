@@ -6,7 +6,7 @@ use crate::options::Options;
 use crate::progress::Progress;
 use crate::read;
 use crate::saves::Saves;
-use brothwagon::{Checkpoint, Study, StudyFile};
+use brothwagon::{Checkpoint, OtherSides, Study, StudyFile};
 use std::io::Write;
 use std::time::{Duration, Instant};
 
@@ -45,9 +45,9 @@ fn started(options: &Options, file: &StudyFile, from: Option<Checkpoint>) -> Res
         return Ok(file.started()?);
     };
     let mut study = Study::new(file.settings)?;
-    study.load(checkpoint).map_err(|other| {
-        let ((nx, ny), (fx, fy)) = (other.has, other.given);
-        Failure::Refused(format!("the study is {nx} by {ny}, and {path} holds a state of {fx} by {fy}"))
+    study.load(checkpoint).map_err(|OtherSides { has, given }| {
+        let (study, state) = (format!("{} by {}", has.0, has.1), format!("{} by {}", given.0, given.1));
+        Failure::Refused(format!("the study is {study}, and {path} holds a state of {state}"))
     })?;
     Ok(study)
 }

@@ -79,7 +79,7 @@ impl Draft {
 impl Drop for Draft {
     fn drop(&mut self) {
         if !self.renamed {
-            // What made the write fail is said; that its draft is left over is the less.
+            // Why the file was not written is said; a draft that cannot be removed is the lesser trouble.
             let _ = fs::remove_file(&self.path);
         }
     }
