@@ -103,6 +103,20 @@ fn checkpoints_along_the_way_are_those_that_shorter_runs_save() {
 }
 
 #[test]
+fn a_steady_run_starts_from_a_checkpoint_and_is_saved_too() {
+    let made = folder("steady");
+    let tube =
+        study("tube", "sides 3 8\nviscosity 0.1\nforce 1e-5 0\ny-min no-slip\ny-max no-slip\nsteps 9000\nsteady 1e-6 10\n");
+    out(&format!("run {tube} --steps 7 --save {made}/seven"));
+    let said = out(&format!("steady {tube} --save {made}/steady --from {made}/seven"));
+    let steps: u64 = value(&said, "settled, steps").parse().unwrap();
+    assert_eq!((value(&said, "from step"), value(&said, "to step")), ("7", &(7 + steps).to_string()[..]));
+    assert!(value(&said, "saved as").ends_with("steady"), "{said}");
+    out(&format!("run {tube} --steps {} --save {made}/run", 7 + steps));
+    assert_eq!(bytes(&format!("{made}/steady")), bytes(&format!("{made}/run")));
+}
+
+#[test]
 fn show_says_what_a_run_said_at_its_end() {
     let made = folder("shown");
     let ran = out(&format!("run STUDIES/channel.study --steps 20 --save {made}/end"));

@@ -5,8 +5,8 @@ use brothwagon::{Study, fingerprint};
 use std::fmt::Display;
 use std::io::{self, Write};
 
-pub fn title(out: &mut impl Write, path: &str, (nx, ny): (usize, usize)) -> io::Result<()> {
-    writeln!(out, "{path}: {nx} by {ny}")
+pub fn title(out: &mut impl Write, path: &str, study: &Study) -> io::Result<()> {
+    writeln!(out, "{path}: {} by {}", study.settings().nx, study.settings().ny)
 }
 
 pub fn line(out: &mut impl Write, name: &str, value: impl Display) -> io::Result<()> {

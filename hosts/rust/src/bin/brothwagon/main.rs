@@ -8,19 +8,22 @@ mod read;
 mod run;
 mod saves;
 mod show;
+mod start;
+mod steady;
 mod whole;
 
-use answer::{exact, line, state, title};
-use brothwagon::{Lossless, Study, StudyFile, level};
+use answer::line;
+use brothwagon::{Lossless, Study, level};
 use failure::Failure;
-use options::Options;
+use options::{Command, Options};
 use run::run;
 use show::show;
+use start::Start;
 use std::env;
 use std::ffi::OsString;
 use std::io::{ErrorKind, Write, stderr, stdout};
 use std::process::ExitCode;
-use std::time::Instant;
+use steady::steady;
 
 const HELP: &str = include_str!("help.txt");
 
@@ -49,38 +52,34 @@ fn command(words: &[String], out: &mut impl Write) -> Result<(), Failure> {
     match words[..] {
         [] | ["help"] => help(out),
         _ if words.contains(&"--help") || words.contains(&"-h") => help(out),
-        ["run", ref options @ ..] => run(&Options::read(options)?, out),
+        ["run", ref words @ ..] => start(Command::Run, words, out),
+        ["steady", ref words @ ..] => start(Command::Steady, words, out),
         ["show", path] => show(path, out),
-        ["steady", path] => with(path, |file| steady(path, file, out)),
-        ["lossless", path] => with(path, |file| lossless(file, out)),
+        ["lossless", path] => lossless(path, out),
         ["version" | "--version" | "-V"] => version(out),
         _ => Err(Failure::Unreadable(format!("`{}` is not understood; brothwagon --help lists the commands", words.join(" ")))),
     }
 }
 
-/// Reads a study file and does this with it. What goes wrong is said with the file's path.
-fn with(path: &str, act: impl FnOnce(StudyFile) -> Result<(), Failure>) -> Result<(), Failure> {
-    act(read::study(path)?).map_err(|failure| failure.about(path))
+/// Runs a study. What is refused is said with its path.
+fn start(command: Command, words: &[&str], out: &mut impl Write) -> Result<(), Failure> {
+    let options = Options::read(command, words)?;
+    let start = Start::of(&options)?;
+    let end = match command {
+        Command::Run => run(&options, start, out),
+        Command::Steady => steady(&options, start, out),
+    };
+    end.map_err(|failure| failure.about(&options.study))
 }
 
 fn help(out: &mut impl Write) -> Result<(), Failure> {
     Ok(write!(out, "{HELP}")?)
 }
 
-fn steady(path: &str, file: StudyFile, out: &mut impl Write) -> Result<(), Failure> {
-    let mut study = file.started()?;
-    let began = Instant::now();
-    let end = study.run_to_steady_state(file.tolerance, file.steps, file.check_every)?;
-    let seconds = began.elapsed().as_secs_f64();
-    title(out, path, (file.settings.nx, file.settings.ny))?;
-    line(out, if end.settled { "settled, steps" } else { "ran out, steps" }, end.steps)?;
-    line(out, "residual", exact(end.residual))?;
-    line(out, "steps per second", format!("{:.1}", end.steps as f64 / seconds))?;
-    state(out, &study)
-}
-
-fn lossless(file: StudyFile, out: &mut impl Write) -> Result<(), Failure> {
-    match Study::new(file.settings)?.lossless()? {
+fn lossless(path: &str, out: &mut impl Write) -> Result<(), Failure> {
+    let file = read::study(path)?;
+    let answer = Study::new(file.settings).and_then(|study| study.lossless());
+    match answer.map_err(|refusal| Failure::from(refusal).about(path))? {
         Lossless::Lossless => writeln!(out, "lossless")?,
         Lossless::Lossy { x, y, direction } => writeln!(out, "lossy {x} {y} {direction}")?,
     }

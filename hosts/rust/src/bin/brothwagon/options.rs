@@ -1,8 +1,26 @@
-//! The words after `run`.
+//! The words after `run` and `steady`.
 
 use crate::failure::Failure;
+use std::fmt;
 
-/// What a run is asked for.
+/// The commands that run a study.
+#[derive(Clone, Copy, Debug, Default, PartialEq)]
+pub enum Command {
+    #[default]
+    Run,
+    Steady,
+}
+
+impl fmt::Display for Command {
+    fn fmt(&self, out: &mut fmt::Formatter) -> fmt::Result {
+        out.write_str(match self {
+            Command::Run => "run",
+            Command::Steady => "steady",
+        })
+    }
+}
+
+/// What a run is asked for. A steady run has no steps of its own, nor checkpoints along the way.
 #[derive(Debug, Default, PartialEq)]
 pub struct Options {
     pub study: String,
@@ -25,6 +43,7 @@ pub struct Every {
 /// What has been read so far.
 #[derive(Default)]
 struct Draft<'a> {
+    command: Command,
     study: Option<&'a str>,
     steps: Option<&'a str>,
     from: Option<&'a str>,
@@ -34,8 +53,9 @@ struct Draft<'a> {
 }
 
 impl Options {
-    pub fn read(words: &[&str]) -> Result<Options, Failure> {
-        let mut draft = Draft::default();
+    /// Reads the words after that command.
+    pub fn read(command: Command, words: &[&str]) -> Result<Options, Failure> {
+        let mut draft = Draft { command, ..Draft::default() };
         let mut words = words.iter().copied();
         while let Some(word) = words.next() {
             draft.take(word, &mut words).map_err(Failure::Unreadable)?;
@@ -46,14 +66,14 @@ impl Options {
 
 impl<'a> Draft<'a> {
     fn take(&mut self, word: &'a str, after: &mut impl Iterator<Item = &'a str>) -> Result<(), String> {
-        let (kept, takes) = match word {
-            "--steps" => (&mut self.steps, "a whole number"),
-            "--from" => (&mut self.from, "a checkpoint file"),
-            "--save" => (&mut self.save, "a file"),
-            "--every" => (&mut self.every, "a whole number, at least 1"),
-            "--into" => (&mut self.into, "a folder"),
-            _ if word.starts_with('-') => {
-                return Err(format!("run has no option `{word}`; brothwagon --help lists them"));
+        let (kept, takes) = match (self.command, word) {
+            (_, "--from") => (&mut self.from, "a checkpoint file"),
+            (_, "--save") => (&mut self.save, "a file"),
+            (Command::Run, "--steps") => (&mut self.steps, "a whole number"),
+            (Command::Run, "--every") => (&mut self.every, "a whole number, at least 1"),
+            (Command::Run, "--into") => (&mut self.into, "a folder"),
+            (command, _) if word.starts_with('-') => {
+                return Err(format!("{command} has no option `{word}`; brothwagon --help lists them"));
             }
             _ => return self.take_study(word),
         };
@@ -70,7 +90,7 @@ impl<'a> Draft<'a> {
 
     fn take_study(&mut self, word: &'a str) -> Result<(), String> {
         match self.study.replace(word) {
-            Some(other) => Err(format!("run takes one study, not both `{other}` and `{word}`")),
+            Some(other) => Err(format!("{} takes one study, not both `{other}` and `{word}`", self.command)),
             None => Ok(()),
         }
     }
@@ -85,9 +105,10 @@ impl<'a> Draft<'a> {
         if self.save.is_some() && self.save == self.study {
             return Err("--save would replace the study".to_string());
         }
+        let study = self.study.ok_or_else(|| format!("{} takes a study; brothwagon --help says more", self.command))?;
         let steps = |word: &str| word.parse().map_err(|_| format!("--steps takes a whole number, not `{word}`"));
         Ok(Options {
-            study: self.study.ok_or("run takes a study; brothwagon --help says more")?.to_string(),
+            study: study.to_string(),
             steps: self.steps.map(steps).transpose()?,
             from: self.from.map(str::to_string),
             save: self.save.map(str::to_string),
@@ -109,7 +130,7 @@ mod tests {
 
     fn wrong(words: &str) -> String {
         let words: Vec<&str> = words.split_whitespace().collect();
-        match Options::read(&words) {
+        match Options::read(Command::Run, &words) {
             Err(Failure::Unreadable(why)) => why,
             other => panic!("{:?}", other.ok()),
         }
@@ -129,11 +150,26 @@ mod tests {
                     save: Some("b".to_string()),
                     every: Some(Every { steps: 2, into: "c".to_string() }),
                 };
-                assert_eq!(Options::read(&said).ok(), Some(expected), "{said:?}");
+                assert_eq!(Options::read(Command::Run, &said).ok(), Some(expected), "{said:?}");
             }
         }
         let alone = Options { study: "my.study".to_string(), ..Options::default() };
-        assert_eq!(Options::read(&["my.study"]).ok(), Some(alone));
+        assert_eq!(Options::read(Command::Steady, &["my.study"]).ok(), Some(alone));
+    }
+
+    #[test]
+    fn a_steady_run_has_fewer() {
+        let words = ["--save", "b", "my.study", "--from", "a"];
+        let expected = Options {
+            study: "my.study".to_string(),
+            from: Some("a".to_string()),
+            save: Some("b".to_string()),
+            ..Options::default()
+        };
+        assert_eq!(Options::read(Command::Steady, &words).ok(), Some(expected));
+        for word in ["--steps", "--every", "--into"] {
+            assert!(Options::read(Command::Steady, &["my.study", word, "1"]).is_err());
+        }
     }
 
     #[test]

@@ -13,7 +13,7 @@ pub fn show(path: &str, out: &mut impl Write) -> Result<(), Failure> {
     // A checkpoint has no settings but its sides: of the others, the mass asks for none and the kinetic energy for the force.
     let mut study = Study::new(Settings::new(nx, ny, 1.0))?;
     study.load(checkpoint).expect("the study has the checkpoint's sides");
-    title(out, path, (nx, ny))?;
+    title(out, path, &study)?;
     line(out, "step", step)?;
     state(out, &study)
 }
