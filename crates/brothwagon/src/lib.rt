@@ -1,5 +1,6 @@
 // The library for hosts in other languages: each function asks one operation, and takes settings as nineteen words.
 // include/brothwagon.h is its face in C. What a host lends for a small answer is always written, with zeros on a refusal.
+use checkpoint::Stored;
 use lossless::Answer;
 use runs::Steady;
 ghost use mathlib.Core.Path.{_≡_};
@@ -212,12 +213,18 @@ pub extern "C" fn brothwagon_write_checkpoint(
     checkpoint::write_checkpoint(host::settings_of(w), step, f, file)
 }
 
+fn told(a: Stored) -> [u64; 3]
+    ensures { λ r. ⌜ r ≡ storedTold a .buffer ⌝ }
+{
+    [a.nx as u64, a.ny as u64, a.step]
+}
+
 #[no_mangle]
 pub extern "C" fn brothwagon_checkpoint_sides(file: &[u8], answer: &mut [u64; 3]) -> u32
     ensures { λ r. ⌜ outcome r (now (answer .exit)) ≡ storedTold (checkpointSides (now (file .entry))) ⌝ }
 {
     let a = checkpoint::checkpoint_sides(file);
-    *answer = [a.nx as u64, a.ny as u64, a.step];
+    *answer = told(a);
     a.number
 }
 
@@ -231,7 +238,7 @@ pub extern "C" fn brothwagon_read_checkpoint(
         ≡ readTold (checkpointRead (now (file .entry)) (now (f .entry))) ⌝ }
 {
     let a = checkpoint::read_checkpoint(file, f);
-    *answer = [a.nx as u64, a.ny as u64, a.step];
+    *answer = told(a);
     a.number
 }
 

@@ -289,8 +289,10 @@ fn file(h: Head, later: u32) -> u32
     ensures { λ r. ⌜ r ≡ first (Refusals.short h ∷ Refusals.version h ∷ Refusals.cut h ∷ Refusals.stored h
         ∷ Refusals.counted h ∷ []) later ⌝ }
 {
-    let later = number_if(count_bad(h), 15, later);
-    let later = number_if(sides_bad(h.nx, h.ny), 1, later);
+    let miscounted = count_bad(h);
+    let outside = sides_bad(h.nx, h.ny);
+    let later = number_if(miscounted, 15, later);
+    let later = number_if(outside, 1, later);
     let later = number_if(h.length < 9, 14, later);
     let later = number_if(h.version != 1, 13, later);
     number_if(h.length < 5, 12, later)

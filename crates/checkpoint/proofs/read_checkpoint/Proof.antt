@@ -46,7 +46,7 @@ same-length : tie.Need-same-length
 same-length c =
     let w = c .before .before .before in
     let a = w .before .before .before .before .before .before .before .args in
-    ap length (w .read-words .ensures) ∙ numbers-length 8 (length (a .f .now)) (a .file .now) 13
+    ap length (w .read-words .ensures) ∙ numbers-length 8 (length (a .f .now)) (a .file .now) _
 
 returns-2 : tie.Need-returns-2
 returns-2 c =

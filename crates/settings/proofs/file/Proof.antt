@@ -8,15 +8,16 @@ returns c =
     let version = c .before .before in
     let cut = version .before .before in
     let sides = cut .before .before in
-    let count = sides .before .before in
+    let count = sides .before in
+    let tests = count .before in
     rw (
       c .number-if5 .ensures,
       version .number-if4 .ensures,
       cut .number-if3 .ensures,
       sides .number-if2 .ensures,
-      sides .before .sides-bad .ensures,
       count .number-if .ensures,
-      count .before .count-bad .ensures,
+      tests .sides-bad .ensures,
+      tests .before .count-bad .ensures,
     )
 
 pub file-spec : {M : Type 1} → statement M
