@@ -32,7 +32,8 @@ impl Header {
 
     /// The file with these entries: sides and count keep their low bytes where they are too large for a file.
     pub fn file(&self, f: &[f64]) -> Vec<u8> {
-        let mut file = (9 + 8 * f.len() as u32).to_be_bytes().to_vec();
+        let mut file = Vec::with_capacity(13 + 8 * f.len());
+        file.extend((9 + 8 * f.len() as u32).to_be_bytes());
         file.push(1);
         file.extend((self.nx as u16).to_be_bytes());
         file.extend((self.ny as u16).to_be_bytes());

@@ -59,8 +59,7 @@ impl Question {
         match &self.asked {
             Asked::Write { header, f, room } => {
                 let mut file = LentFile::canaries(*room, self.address);
-                seen.writes(header, f, &mut file)?;
-                if seen.numbers.ends_with(&[(Call::WriteCheckpoint, 0)]) {
+                if seen.writes(header, f, &mut file)? == 0 {
                     seen.reads(file.part(), f.len())?;
                 }
             }
@@ -75,13 +74,14 @@ impl Question {
 }
 
 impl Seen {
-    fn writes(&mut self, header: &Header, f: &[f64], file: &mut LentFile) -> Result<(), Difference> {
+    fn writes(&mut self, header: &Header, f: &[f64], file: &mut LentFile) -> Result<u32, Difference> {
         let settings = ffi::Settings { nx: header.nx, ny: header.ny, ..ffi::Settings::default() };
         let mut wanted = file.all.clone();
         let refused = header.write(f, &mut wanted[file.begins..][..file.length]);
         let number = ffi::write_checkpoint(&settings, header.step, f, file.part());
         self.answers(Call::WriteCheckpoint, Answer::bare(refused), Answer { number, words: [0; 3] })?;
-        self.same("byte", file.begins, &wanted, &file.all, |byte| byte.into())
+        self.same("byte", file.begins, &wanted, &file.all, |byte| byte.into())?;
+        Ok(number)
     }
 
     fn reads(&mut self, file: &[u8], room: usize) -> Result<(), Difference> {

@@ -5,18 +5,18 @@ use super::question::{Asked, Question};
 use crate::made::Made;
 
 /// So many questions, and the one of each place among them.
-type Sweep = (u64, fn(usize) -> Asked);
+type Sweep = (usize, fn(usize) -> Asked);
 
 const SWEEPS: [Sweep; 9] = [
     (86 + 446, prefix),
-    ((SMALL.len() * LONGER.len()) as u64, longer),
+    (SMALL.len() * LONGER.len(), longer),
     (13 * 256, changed_byte),
-    ((SMALL.len() * OFF.len()) as u64, read_into_others),
-    ((SMALL.len() * OFF.len() * OFF.len()) as u64, written_into_others),
-    (LIMITS.len() as u64, written_at_a_limit),
-    (BEYOND.len() as u64 * 2, read_beyond),
-    ((WRAPPING.len() * WRAPPED_TO.len()) as u64, read_wrapped),
-    ((WIDE.len() * WRAPPED_TO.len()) as u64, written_wide),
+    (SMALL.len() * OFF.len(), read_into_others),
+    (SMALL.len() * OFF.len() * OFF.len(), written_into_others),
+    (LIMITS.len(), written_at_a_limit),
+    (BEYOND.len() * 2, read_beyond),
+    (WRAPPING.len() * WRAPPED_TO.len(), read_wrapped),
+    (WIDE.len() * WRAPPED_TO.len(), written_wide),
 ];
 
 const SMALL: [(u64, u64); 2] = [(1, 1), (2, 3)];
@@ -76,17 +76,18 @@ const WRAPPED_TO: [usize; 4] = [0, 1, 6, 4];
 
 /// So many questions there are.
 pub fn count() -> u64 {
-    SWEEPS.iter().map(|(count, _)| count).sum()
+    SWEEPS.iter().map(|&(count, _)| count as u64).sum()
 }
 
 /// The question of one place, if there are so many.
 pub fn question(place: u64) -> Option<Question> {
-    let mut left = place;
+    let address = place as usize % 8;
+    let mut place = place as usize;
     for (count, ask) in SWEEPS {
-        if left < count {
-            return Some(Question { asked: ask(left as usize), address: place as usize % 8 });
+        if place < count {
+            return Some(Question { asked: ask(place), address });
         }
-        left -= count;
+        place -= count;
     }
     None
 }
