@@ -45,7 +45,7 @@ pub fn times(turns: u32) -> io::Result<Vec<Line>> {
     }
     for runner in &mut runners {
         if runner.ask("end")? != ALIKE {
-            return Err(io::Error::other(format!("the checkpoint of {} does not end alike", runner.name)));
+            return Err(io::Error::other(format!("the checkpoint file of {} is not as the format has it", runner.name)));
         }
     }
     let line = |(runner, best): (&Runner, [Duration; TIMED.len()])| Line {

@@ -6,10 +6,18 @@ use crate::made::Made;
 pub struct Spoiled(pub Vec<u8>);
 
 impl Spoiled {
-    /// The sides that stand in it; what is cut off counts as 0.
+    /// A number of so many bytes that stands in it; what is cut off counts as 0.
+    fn number(&self, at: usize, width: usize) -> u64 {
+        let byte = |at| self.0.get(at).copied().unwrap_or(0);
+        (at..at + width).fold(0, |number, at| number << 8 | u64::from(byte(at)))
+    }
+
+    pub fn count(&self) -> u32 {
+        self.number(0, 4) as u32
+    }
+
     pub fn sides(&self) -> (u64, u64) {
-        let byte = |at: usize| u64::from(self.0.get(at).copied().unwrap_or(0));
-        (byte(5) << 8 | byte(6), byte(7) << 8 | byte(8))
+        (self.number(5, 2), self.number(7, 2))
     }
 
     /// Puts bytes over those that it has, as far as it goes.
@@ -19,7 +27,11 @@ impl Spoiled {
         }
     }
 
-    fn put_sides(&mut self, (nx, ny): (u64, u64)) {
+    pub fn put_count(&mut self, count: u32) {
+        self.put(0, &count.to_be_bytes());
+    }
+
+    pub fn put_sides(&mut self, (nx, ny): (u64, u64)) {
         self.put(5, &(nx as u16).to_be_bytes());
         self.put(7, &(ny as u16).to_be_bytes());
     }
@@ -27,7 +39,7 @@ impl Spoiled {
     /// Gives it another length, any bytes behind, and the count that suits it.
     fn resize(&mut self, length: usize, made: &mut Made) {
         self.0.resize_with(length, || made.next() as u8);
-        self.put(0, &(length as u32).wrapping_sub(4).to_be_bytes());
+        self.put_count((length as u32).wrapping_sub(4));
     }
 }
 
@@ -103,7 +115,7 @@ fn other_version(file: &mut Spoiled, made: &mut Made) {
 fn other_count(file: &mut Spoiled, made: &mut Made) {
     let (right, any) = ((file.0.len() as u32).wrapping_sub(4), made.next() as u32);
     let by = made.pick(&[1, 4, 5, 9, 13, 72, 1 << 8, 1 << 16, 1 << 24, 1 << 31, right, any]);
-    file.put(0, &made.pick(&[right.wrapping_add(by), right.wrapping_sub(by)]).to_be_bytes());
+    file.put_count(made.pick(&[right.wrapping_add(by), right.wrapping_sub(by)]));
 }
 
 /// The count suits the length, and neither suits the sides.

@@ -26,7 +26,7 @@ pub struct Question {
 }
 
 /// The three calls.
-#[derive(Clone, Copy, Debug, PartialEq, Eq)]
+#[derive(Clone, Copy, Debug)]
 pub enum Call {
     WriteCheckpoint,
     CheckpointSides,
@@ -34,7 +34,7 @@ pub enum Call {
 }
 
 /// What a call answers: its number, and nx, ny and the step number, or zeros.
-#[derive(Clone, Copy, Debug, PartialEq, Eq)]
+#[derive(PartialEq, Eq)]
 struct Answer {
     number: u32,
     words: [u64; 3],

@@ -1,5 +1,6 @@
 //! Finds the smallest question like a given one whose answer still differs.
 
+use super::faults::Spoiled;
 use super::format::Header;
 use super::question::{Asked, Difference, Question};
 
@@ -65,17 +66,15 @@ fn simpler_files(file: &[u8], room: usize) -> impl Iterator<Item = Asked> {
 
 /// The file on smaller grids: as many bytes too long or too short, with a count as far off.
 fn files_on_smaller(file: &[u8], room: usize) -> impl Iterator<Item = Asked> {
-    let byte = |at: usize| file.get(at).copied().unwrap_or(0);
-    let [nx, ny] = [[byte(5), byte(6)], [byte(7), byte(8)]].map(|side| u64::from(u16::from_be_bytes(side)));
-    let count = u32::from_be_bytes([byte(0), byte(1), byte(2), byte(3)]);
-    let on_smaller = move |(nx, ny, less): (u64, u64, usize)| {
-        let mut file = file[..file.len().saturating_sub(72 * less).max(9)].to_vec();
-        file[..4].copy_from_slice(&count.wrapping_sub(72 * less as u32).to_be_bytes());
-        file[5..7].copy_from_slice(&(nx as u16).to_be_bytes());
-        file[7..9].copy_from_slice(&(ny as u16).to_be_bytes());
-        Asked::Read { file, room: room.saturating_sub(9 * less) }
+    let header = Spoiled(file.iter().copied().take(13).collect());
+    let (nx, ny) = header.sides();
+    let on_smaller = move |(nx, ny, less)| {
+        let mut smaller = Spoiled(file[..file.len().saturating_sub(72 * less)].to_vec());
+        smaller.put_sides((nx, ny));
+        smaller.put_count(header.count().wrapping_sub(72 * less as u32));
+        Asked::Read { file: smaller.0, room: room.saturating_sub(9 * less) }
     };
-    smaller_sides(nx, ny).filter(|_| file.len() >= 9).map(on_smaller)
+    smaller_sides(nx, ny).map(on_smaller)
 }
 
 /// Smaller sides, and how many cells fewer they have.

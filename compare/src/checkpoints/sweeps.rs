@@ -53,7 +53,7 @@ const BEYOND: [(u64, u64); 15] = [
 const WRAPPING: [(u64, u64); 8] =
     [(256, 256), (4096, 16), (1024, 1024), (2048, 4), (32_768, 16_384), (65_535, 65_535), (32_768, 2), (16_384, 32_768)];
 
-/// Sides of settings whose product, or whose low bits, some number would take for those of a smaller grid.
+/// Sides of settings that no grid has; for most, some number would take their product or their low bits for a smaller grid's.
 const WIDE: [(u64, u64); 14] = [
     (0, 0),
     (u64::MAX, 1),
@@ -72,7 +72,7 @@ const WIDE: [(u64, u64); 14] = [
 ];
 
 /// The cells of the smaller grid.
-const WRAPPED_TO: [usize; 4] = [0, 1, 6, 4];
+const WRAPPED_TO: [usize; 3] = [0, 1, 6];
 
 /// So many questions there are.
 pub fn count() -> u64 {
