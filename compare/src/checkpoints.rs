@@ -20,7 +20,7 @@ const ANSWERS: [(Call, &[u32]); 3] = [
 ];
 
 /// A long comparison meets each answer so often, or says little.
-const OFTEN: u64 = 1000;
+const OFTEN: u64 = 100;
 
 /// What has been compared.
 #[derive(Default)]
