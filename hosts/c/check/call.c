@@ -138,8 +138,8 @@ uint64_t pattern(double number) {
     return bits;
 }
 
-/* A NaN with a payload that tells each word of each buffer from all others. */
-static uint64_t canary(int which, size_t place) { return UINT64_C(0x7ff4000000000000) | (uint64_t)which << 32 | place; }
+/* A NaN with a payload that tells each word of each buffer from all others; none of its bytes is 0. */
+static uint64_t canary(int which, size_t place) { return UINT64_C(0x7ff4a5a5a5a5a5a5) ^ ((uint64_t)which << 32 | place); }
 
 static void fill(double *into, int which, size_t count) {
     for (size_t k = 0; k < count; k++) {

@@ -39,7 +39,7 @@ static void a_cell(size_t at) {
     done(&WRITE_CHECKPOINT, &call);
 
     memcpy(given[CHECKPOINT], wanted[CHECKPOINT], sizeof given[CHECKPOINT]);
-    memset(given[F], 0, sizeof F_OF_A_CELL);
+    memset(given[F], 0xa5, sizeof F_OF_A_CELL);
     want_header(1, 1, 0x01020304);
     done(&READ_CHECKPOINT, &call);
     memcpy(given[F], wanted[F], sizeof given[F]);
@@ -56,7 +56,7 @@ static void grid(uint64_t nx, uint64_t ny, uint32_t step) {
     hold_file(&call);
     want_header(nx, ny, step);
     done(&CHECKPOINT_SIDES, &call);
-    memset(given[F], 0, 8 * call.length[F]);
+    memset(given[F], 0xa5, 8 * call.length[F]);
     done(&READ_CHECKPOINT, &call);
 }
 
