@@ -4,7 +4,7 @@ use Rattle.brothwagon.proofs.brothwagon_checkpoint_sides.Statement.{sta
 use Rattle.brothwagon.proofs.brothwagon_checkpoint_sides.Tie as tie
 
 returns : tie.Need-returns
-returns c = rw (c .before .told .ensures, c .before .before .checkpoint-sides .ensures)
+returns c = rw (c .told .ensures, c .before .checkpoint-sides .ensures)
 
 pub brothwagon-checkpoint-sides-spec : {M : Type 1} → statement M
 brothwagon-checkpoint-sides-spec = tie.close (tie.spec (λ c κs. search needs) (λ c κs. search needs) returns)

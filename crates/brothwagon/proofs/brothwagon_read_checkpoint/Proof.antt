@@ -6,9 +6,7 @@ use Rattle.brothwagon.proofs.brothwagon_read_checkpoint.Statement.{stat
 use Rattle.brothwagon.proofs.brothwagon_read_checkpoint.Tie as tie
 
 returns : tie.Need-returns
-returns c =
-    let told = c .before in
-    rw (told .told .ensures) (ap readTold (told .before .before .before .read-checkpoint .ensures))
+returns c = rw (c .told .ensures) (ap readTold (c .before .before .before .read-checkpoint .ensures))
 
 pub brothwagon-read-checkpoint-spec : {M : Type 1} → statement M
 brothwagon-read-checkpoint-spec = tie.close (tie.spec (λ c κs. search needs) (λ c κs. search needs) (λ c. search needs) returns)
