@@ -6,20 +6,19 @@ use Prim.Native.Nat.{ℕ, _+_, _*_, _^_, _≤_, _<_}
 use native.Mathlib.Omega.{arith}
 use borrow.Author.Tests.{eq-eqb, le-ltb}
 use lib.ListN.{length}
-use Rattle.words.specs.Words.{big, bigs, numberAt, Laid}
+use Rattle.words.specs.Words.{big, Laid}
 use Rattle.words.proofs.Words.{Bytes, numbers-length}
 use Rattle.words.proofs.Laid.{number-stands, numbers-stand}
-use Rattle.grid.specs.Grid.{Grid}
 use Rattle.settings.specs.declared.Head.{Head}
 use Rattle.settings.specs.declared.Settings.{Settings}
 use Rattle.settings.specs.Tests.{sidesBad, lengthBad, bytesBad, countBad}
 use Rattle.settings.specs.Refusals as Call
-use Rattle.settings.specs.Refusals.{tests, refusal}
+use Rattle.settings.specs.Refusals.{refusal}
 use Rattle.settings.specs.Outcome.{Written}
 use Rattle.settings.proofs.Laws.{known, none, sides-ok}
 use Rattle.settings.proofs.Outcome.{answered}
 use Rattle.checkpoint.specs.declared.Stored.{Stored}
-use Rattle.checkpoint.specs.Checkpoint.{countOf, checkpointOf, partAt, headOf, entriesOf, told, Read, read, checkpointWritten, checkpointRead}
+use Rattle.checkpoint.specs.Checkpoint.{countOf, checkpointOf, partAt, headOf, entriesOf, Read, read, checkpointWritten, checkpointRead}
 use Rattle.checkpoint.proofs.Files.{Patterns, heading, part-of, head-laid, file-laid, head-of-file, entries-of-file}
 
 abbrev stored : ℕ → ℕ → ℕ → Stored

@@ -20,7 +20,7 @@ countOf nx ny = 9 + 72 * (nx * ny)
 
 -- the count in four bytes, the version 1 in one, nx and ny in two each, and the step number in four
 unfoldable pub headBytes : ℕ → ℕ → ℕ → List ℕ
-headBytes nx ny step = big 4 (countOf nx ny) ++ (big 1 1 ++ (big 2 nx ++ (big 2 ny ++ big 4 step)))
+headBytes nx ny step = big 4 (countOf nx ny) ++ big 1 1 ++ big 2 nx ++ big 2 ny ++ big 4 step
 
 -- then the 64 bits of every entry, in the order of the buffer
 unfoldable pub checkpointOf : ℕ → ℕ → ℕ → List ℕ → List ℕ

@@ -2,7 +2,7 @@
 use settings::Head;
 use settings::Settings;
 ghost use mathlib.Core.Path.{_≡_};
-ghost use Prim.Native.Nat.{_+_, _≤_};
+ghost use Prim.Native.Nat.{_≤_};
 ghost use lib.ListN.{length};
 ghost use Rattle.words.specs.Words.{Laid};
 ghost use Rattle.grid.specs.Grid.{Grid};

@@ -3,7 +3,7 @@ use cell::Collision;
 use settings::Face;
 use settings::Settings;
 
-// Every byte of the step number and of the first seven entries is another one; then a NaN that signals, and all bits set.
+// Each byte of the step number and of seven entries is another one; then a NaN that signals, and all bits set.
 pub const STEP: u32 = 0x0102_0304;
 
 pub const F: [u64; 9] = [

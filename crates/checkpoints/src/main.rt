@@ -1,4 +1,4 @@
-// The bytes of small checkpoint files, and what is refused of files and of buffers lent for them, with which number, on canaries.
+// The bytes of small checkpoint files; and what is refused, with which number, on lent buffers full of canaries.
 mod given;
 mod refused;
 mod show;

@@ -1,4 +1,4 @@
-// Every number of every operation on a file, and their order: zeros are answered, and the lent buffers keep their canaries.
+// Every number of every operation on a file, and their order: zeros are answered, and lent buffers stay as they were.
 use crate::given;
 use crate::given::F;
 use crate::given::changed;

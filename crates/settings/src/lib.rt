@@ -34,7 +34,7 @@ pub struct Settings {
     pub y_max: Face,
 }
 
-// What stands at the head of a checkpoint file, a part that the file does not have whole as 0, and the length of the file.
+// The length of a checkpoint file, and what stands at its head: 0 for a part that the file does not have whole.
 pub struct Head {
     pub length: usize,
     pub count: usize,

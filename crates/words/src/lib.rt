@@ -1,7 +1,7 @@
 // Numbers as bytes, the highest first: one number of up to eight bytes, and many of eight.
 ghost use mathlib.Core.Path.{_≡_};
 ghost use Prim.Native.Nat.{_+_, _*_, _≤_, _<_};
-ghost use lib.ListN.{length, getD};
+ghost use lib.ListN.{length};
 ghost use Rattle.words.specs.Words.{byteOf, big, bigs, numberAt, numbersAt, Laid};
 
 // ---- reading

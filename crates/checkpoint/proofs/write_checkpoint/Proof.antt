@@ -1,5 +1,5 @@
 -- `checkpoint::write_checkpoint` meets its contract: past the refusal the file has room for the head and every entry.
-use mathlib.Core.Path.{_≡_, sym, ap, _∙_}
+use mathlib.Core.Path.{sym, ap, _∙_}
 use mathlib.Core.List.{List}
 use Prim.Native.Nat.{ℕ}
 use native.Mathlib.Omega.{arith}

@@ -2,7 +2,6 @@
 use mathlib.Core.Path.{sym, _∙_}
 use Prim.Native.Nat.{_-_, _≤_}
 use native.Mathlib.Omega.{arith}
-use borrow.Author.Needs.{needs}
 use lib.ListN.{getD}
 use Rattle.grid.specs.Writes.{Wrote}
 use Rattle.grid.proofs.Writes.{none, one-more, to-length}

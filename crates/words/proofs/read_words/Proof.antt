@@ -1,7 +1,6 @@
 -- `words::read_words` meets its contract. The loop's invariant: the first k numbers are read.
 use Prim.Native.Nat.{_+_, _-_, _*_, _≤_}
 use native.Mathlib.Omega.{arith}
-use borrow.Author.Needs.{needs}
 use lib.ListN.{length}
 use Rattle.grid.specs.Writes.{Wrote}
 use Rattle.grid.proofs.Writes.{none}
