@@ -24,6 +24,15 @@ pub fn gives(operation: &[u8], case: &[u8], number: u32) {
     io::print_decimal(STDOUT_FILENO, number as u64);
 }
 
+// A file of so many bytes, of which byte k is this one.
+pub fn changed(operation: &[u8], k: usize, byte: u8, length: usize, number: u32) {
+    io::write_all(STDOUT_FILENO, operation);
+    value(b": ", length as u64);
+    value(b" bytes, byte ", k as u64);
+    value(b" is ", byte as u64);
+    value(b", gives ", number as u64);
+}
+
 // The word stands for what must hold.
 pub fn holds(it: bool, word: &[u8]) {
     if it {
