@@ -9,6 +9,7 @@ int main(void) {
     check_readings();
     check_streaming();
     check_steps();
+    check_checkpoints();
     printf("check: %lu calls of %d functions, %lu numbers as expected\n", calls_checked, (int)OPERATIONS, numbers_checked);
     return 0;
 }
