@@ -1,6 +1,6 @@
 -- A file and the state that it holds give each other: what was written is read back, and an accepted file is the file of what was read.
 use mathlib.Core.Path.{_≡_, refl, sym, ap, ap₂, _∙_}
-use mathlib.Core.Bool.{false}
+use mathlib.Core.Bool.{Bool, true, false, cond}
 use mathlib.Core.List.{List}
 use Prim.Native.Nat.{ℕ, _+_, _*_, _^_, _≤_, _<_}
 use native.Mathlib.Omega.{arith}
@@ -11,14 +11,14 @@ use Rattle.words.proofs.Words.{Bytes, numbers-length}
 use Rattle.words.proofs.Laid.{number-stands, numbers-stand}
 use Rattle.settings.specs.declared.Head.{Head}
 use Rattle.settings.specs.declared.Settings.{Settings}
-use Rattle.settings.specs.Tests.{sidesBad, lengthBad, bytesBad, countBad}
+use Rattle.settings.specs.Tests.{sidesBad, lengthBad, bytesBad, shortBad, versionBad, cutBad, countBad}
 use Rattle.settings.specs.Refusals as Call
 use Rattle.settings.specs.Refusals.{refusal}
-use Rattle.settings.specs.Outcome.{Written}
+use Rattle.settings.specs.Outcome.{answer, Written}
 use Rattle.settings.proofs.Laws.{known, none, sides-ok}
 use Rattle.settings.proofs.Outcome.{answered}
 use Rattle.checkpoint.specs.declared.Stored.{Stored}
-use Rattle.checkpoint.specs.Checkpoint.{countOf, checkpointOf, partAt, headOf, entriesOf, Read, read, checkpointWritten, checkpointRead}
+use Rattle.checkpoint.specs.Checkpoint.{countOf, checkpointOf, partAt, headOf, entriesOf, Read, read, checkpointWritten, checkpointSides, checkpointRead}
 use Rattle.checkpoint.proofs.Files.{Patterns, heading, part-of, head-laid, file-laid, head-of-file, entries-of-file}
 
 abbrev stored : ℕ → ℕ → ℕ → Stored
@@ -99,3 +99,33 @@ same-bytes file lent file' lent' bytes bytes' zero zero' same =
     accepted file lent bytes zero
     ∙ ap (λ (r : Read). checkpointOf (r .stored .nx) (r .stored .ny) (r .stored .step) (r .f)) same
     ∙ sym (accepted file' lent' bytes' zero')
+
+-- ---- THE READER REFUSES AS THE QUESTION DOES, and by 2 alone where that answers
+
+-- five tests, and what comes after them
+stops : (a b c d e : Bool) (later : ℕ) → let first : ℕ → ℕ = λ n. cond a 12 (cond b 13 (cond c 14 (cond d 1 (cond e 15 n)))) in
+    first later ≡ answer (first 0) later (first 0)
+unfolding answer
+stops true b c d e later = refl
+stops false true c d e later = refl
+stops false false true d e later = refl
+stops false false false true e later = refl
+stops false false false false true later = refl
+stops false false false false false later = refl
+
+pub question-first : (h : Head) (len : ℕ) → let asked = refusal (Call.checkpointSides h) in
+    refusal (Call.readCheckpoint h len) ≡ answer asked (cond (lengthBad (h .nx) (h .ny) 9 len) 2 0) asked
+question-first h len =
+    stops (shortBad h) (versionBad h) (cutBad h) (sidesBad (h .nx) (h .ny)) (countBad h) (cond (lengthBad (h .nx) (h .ny) 9 len) 2 0)
+
+-- so what the question tells is enough to lend a buffer: the file is read, with the same sides and step
+pub asked-then-read : (file lent : List ℕ) → refusal (Call.checkpointSides (headOf file)) ≡ 0
+    → let told = checkpointSides file in length lent ≡ 9 * (told .nx * told .ny) → checkpointRead file lent ≡ read told (entriesOf file)
+unfolding lengthBad
+asked-then-read file lent zero fits =
+    let h = headOf file in
+    let is : checkpointSides file ≡ stored (h .nx) (h .ny) (h .step) = sym (answered _ refl zero refl) in
+    let size : length lent ≡ 9 * (h .nx * h .ny) = fits ∙ ap (λ (r : Stored). 9 * (r .nx * r .ny)) is in
+    let passes : refusal (Call.readCheckpoint h (length lent)) ≡ 0 =
+    question-first h (length lent) ∙ sym (answered _ refl zero (rw (eq-eqb (length lent) (9 * (h .nx * h .ny)) size))) in
+    read-done file lent passes ∙ ap (λ (r : Stored). read r (entriesOf file)) (sym is)

@@ -1,7 +1,7 @@
 // The bytes of small checkpoint files; and what is refused, with which number, on lent buffers full of canaries.
 mod given;
+mod lines;
 mod refused;
-mod show;
 mod written;
 
 fn main() {

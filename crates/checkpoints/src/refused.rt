@@ -3,11 +3,11 @@ use crate::given;
 use crate::given::F;
 use crate::given::changed;
 use crate::given::sized;
-use crate::show;
-use crate::show::CANARY;
-use crate::show::kept;
+use crate::lines;
 use checkpoint::Stored;
 use settings::Settings;
+use show::CANARY;
+use show::kept;
 
 fn zeros(r: Stored) -> bool {
     (r.nx == 0) & (r.ny == 0) & (r.step == 0)
@@ -17,14 +17,14 @@ fn zeros(r: Stored) -> bool {
 
 fn asked(k: usize, byte: u8, file: &[u8]) {
     let r = checkpoint::checkpoint_sides(file);
-    show::changed(b"checkpoint_sides", k, byte, file.len(), r.number);
+    lines::changed(b"checkpoint_sides", k, byte, file.len(), r.number);
     show::holds(zeros(r), b", zeros");
     show::newline();
 }
 
 fn read(k: usize, byte: u8, file: &[u8], f: &mut [u64]) {
     let r = checkpoint::read_checkpoint(file, f);
-    show::changed(b"read_checkpoint", k, byte, file.len(), r.number);
+    lines::changed(b"read_checkpoint", k, byte, file.len(), r.number);
     show::holds(zeros(r), b", zeros");
     show::value(b", ", f.len() as u64);
     show::holds(kept(f), b" left");

@@ -2,25 +2,15 @@
 use crate::given;
 use crate::given::F;
 use crate::given::STEP;
-use crate::show;
-use crate::show::CANARY;
-
-fn same(a: [u64; 9], b: [u64; 9]) -> bool {
-    let mut i = 0;
-    while i < 9 {
-        if a[i] != b[i] {
-            return false;
-        }
-        i += 1;
-    }
-    true
-}
+use crate::lines;
+use show::CANARY;
+use show::same;
 
 fn read_back(file: &[u8]) {
     let mut f = [CANARY; 9];
     let r = checkpoint::read_checkpoint(file, &mut f);
     show::gives(b"read_checkpoint", b"what was written", r.number);
-    show::stored(r);
+    lines::stored(r);
     show::holds(same(f, F), b", every bit");
     show::newline();
 }
@@ -30,7 +20,7 @@ fn one_by_one() {
     let number = checkpoint::write_checkpoint(given::sized(1, 1), STEP, &F, &mut file);
     show::gives(b"write_checkpoint", b"1 by 1", number);
     show::newline();
-    show::bytes(&file);
+    lines::bytes(&file);
     read_back(&file);
 }
 
@@ -40,10 +30,10 @@ fn three_by_two() {
     let number = checkpoint::write_checkpoint(given::sized(3, 2), 0, &[CANARY; 54], &mut file);
     show::gives(b"write_checkpoint", b"3 by 2", number);
     show::newline();
-    show::bytes(&file[0..13]);
+    lines::bytes(&file[0..13]);
     let r = checkpoint::checkpoint_sides(&file);
     show::gives(b"checkpoint_sides", b"3 by 2", r.number);
-    show::stored(r);
+    lines::stored(r);
     show::newline();
 }
 

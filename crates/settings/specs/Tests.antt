@@ -31,7 +31,7 @@ sidesBad nx ny = sideBad nx || sideBad ny || ltb mostCells (nx * ny)
 unfoldable pub lengthBad : ℕ → ℕ → ℕ → ℕ → Bool
 lengthBad nx ny per len = not (eqb len (per * (nx * ny)))
 
--- or a lent file has: `head` bytes, and nine entries of eight bytes for each cell
+-- or a file has it, which is not `head` bytes and nine entries of eight bytes for each cell
 unfoldable pub bytesBad : ℕ → ℕ → ℕ → ℕ → Bool
 bytesBad nx ny head len = not (eqb len (head + 72 * (nx * ny)))
 

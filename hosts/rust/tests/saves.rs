@@ -363,3 +363,30 @@ fn a_killed_run_leaves_a_whole_file_under_each_name() {
     assert!(left > 0, "no kill came in the middle of saving");
     fs::remove_dir_all(path("MADE/killed")).unwrap();
 }
+
+/// The library that stands before the C library and writes down what a command asks of the system, built of syncs.c.
+fn teller() -> String {
+    let made = path("MADE/syncs.so");
+    let source = concat!(env!("CARGO_MANIFEST_DIR"), "/tests/syncs.c");
+    let words = ["-shared", "-fPIC", "-Wall", "-Wextra", "-Werror", "-o", &made, source, "-ldl"];
+    assert!(Command::new("cc").args(words).status().unwrap().success());
+    made
+}
+
+#[test]
+fn a_checkpoint_is_synced_then_named_then_its_folder_is_synced() {
+    let made = path(&folder("synced"));
+    let (told, end) = (path("MADE/syncs.told"), format!("{made}/end"));
+    let _ = fs::remove_file(&told);
+    let cell = study("synced", "sides 1 1\nviscosity 0.1\nsteps 5\n");
+    let mut command = Command::new(env!("CARGO_BIN_EXE_brothwagon"));
+    command.args(["run", &path(&cell), "--save", &end]).env("LD_PRELOAD", teller()).env("SYNCS", &told);
+    assert!(command.stdout(Stdio::null()).status().unwrap().success());
+
+    let told = fs::read_to_string(&told).unwrap();
+    let mut told: Vec<&str> = told.lines().collect();
+    told.dedup();
+    let draft = told[0].strip_prefix("write ").unwrap();
+    let order = [format!("write {draft}"), format!("sync {draft}"), format!("rename {draft} {end}"), format!("sync {made}")];
+    assert_eq!(told, order);
+}

@@ -1,9 +1,9 @@
--- `checkpoints::show::bytes` is safe and ends.
+-- `checkpoints::lines::bytes` is safe and ends.
 use Prim.Native.Nat.{_≤_, _-_}
 use lib.ListN.{length}
 use borrow.Author.Needs.{needs}
-use Rattle.checkpoints.proofs.show.bytes.Statement.{statement}
-use Rattle.checkpoints.proofs.show.bytes.Tie as tie
+use Rattle.checkpoints.proofs.lines.bytes.Statement.{statement}
+use Rattle.checkpoints.proofs.lines.bytes.Tie as tie
 
 abbrev Inv-loop : tie.InvT-loop
 Inv-loop file k₀ k = k ≤ length file

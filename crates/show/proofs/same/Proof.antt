@@ -1,8 +1,8 @@
--- `refusals::ruined::same` is safe and ends.
+-- `show::same` is safe and ends.
 use Prim.Native.Nat.{_≤_, _-_}
 use borrow.Author.Needs.{needs}
-use Rattle.refusals.proofs.ruined.same.Statement.{statement}
-use Rattle.refusals.proofs.ruined.same.Tie as tie
+use Rattle.show.proofs.same.Statement.{statement}
+use Rattle.show.proofs.same.Tie as tie
 
 abbrev Inv-loop : tie.InvT-loop
 Inv-loop a b i₀ i = i ≤ 9

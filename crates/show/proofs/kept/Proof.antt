@@ -1,23 +1,22 @@
--- `checkpoints::written::same` is safe and ends.
+-- `show::kept` is safe and ends.
 use Prim.Native.Nat.{_≤_, _-_}
+use lib.ListN.{length}
 use borrow.Author.Needs.{needs}
-use Rattle.checkpoints.proofs.written.same.Statement.{statement}
-use Rattle.checkpoints.proofs.written.same.Tie as tie
+use Rattle.show.proofs.kept.Statement.{statement}
+use Rattle.show.proofs.kept.Tie as tie
 
 abbrev Inv-loop : tie.InvT-loop
-Inv-loop a b i₀ i = i ≤ 9
+Inv-loop a k₀ k = k ≤ length a
 
 abbrev μ-loop : tie.MeasureT-loop
-μ-loop a b i₀ i = 9 - i
+μ-loop a k₀ k = length a - k
 
-pub same-spec : {M : Type 1} → statement M
-same-spec =
+pub kept-spec : {M : Type 1} → statement M
+kept-spec =
     tie.close
     (tie.spec
     Inv-loop
     μ-loop
-    (λ c. search needs)
-    (λ c. search needs)
     (λ c. search needs)
     (λ c. search needs)
     (λ c. search needs)

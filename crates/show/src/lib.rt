@@ -1,4 +1,5 @@
-// A line for each case: its operation and name, the number that it gives, values of its answer, and whether what it leaves is as it must be.
+// A line for each case of a program of the gate: its operation and name, the number that it gives, values of its answer, and whether
+// what it leaves is as it must be.
 use libc::STDOUT_FILENO;
 
 // A NaN with a payload, so that a copy of it is told from any number.
@@ -11,6 +12,17 @@ pub fn kept(a: &[u64]) -> bool {
             return false;
         }
         k += 1;
+    }
+    true
+}
+
+pub fn same(a: [u64; 9], b: [u64; 9]) -> bool {
+    let mut i = 0;
+    while i < 9 {
+        if a[i] != b[i] {
+            return false;
+        }
+        i += 1;
     }
     true
 }
