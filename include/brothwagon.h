@@ -14,20 +14,29 @@
  *    9  steady run: a snapshot has a velocity component that is not finite
  *   10  the tolerance is NaN, or there are more than 1,000,000 steps
  *   11  the direction lookup is given two components that are no row of E
+ *   12  a file has fewer than five bytes, so no version
+ *   13  a file's version is not 1
+ *   14  a file is cut short before the end of its sides
+ *   15  a file's count, or its actual length, is wrong
  *
- * They are tested in the order 1, 2, 3, 4, 5, 10, 6, 7, 8, 11, and the first that applies is answered. Each function below
- * lists the ones that it tests; no other is answered. A refused call (any number but 0, and 9 apart) writes to no lent buffer,
- * and leaves zeros in its small answer array, which every call writes.
+ * They are tested in the order 1, 2, 3, 4, 5, 10, 6, 7, 8, 11, and of a file that is read in the order 12, 13, 14, 1, 15, 2;
+ * the first that applies is answered. Each function below lists the ones that it tests; no other is answered. A refused call
+ * (any number but 0, and 9 apart) writes to no lent buffer, and leaves zeros in its small answer array, which every call writes.
  *
  * Buffers. Entry (x, y, i) of the populations f and of the post-collision buffer stands at x + y nx + i nx ny: each has
  * 9 nx ny entries. A velocity buffer has 2 nx ny, a cell's two components at 2 (x + y nx). An initial table has 3 nx ny, a
  * cell's density, ux and uy at 3 (x + y nx). The length beside a pointer counts entries. Entries may hold any bits; a copied
  * entry keeps all of them, and a NaN that arithmetic makes is stored as 0x7ff8000000000000.
  *
- * What the caller sees to. No pointer is NULL, not even beside a length of 0; each is to 8-byte aligned memory, and nothing
- * that is lent (settings and answers too) overlaps. The caller's floating-point mode is the usual one: rounding to nearest
- * even, subnormals kept (no flush to zero, so no -ffast-math in the program that is linked). The library keeps nothing between
- * calls; calls on different buffers may run at the same time.
+ * A checkpoint file. Its numbers are big-endian: four bytes that count all that follow, 9 + 72 nx ny; one byte, the version 1;
+ * nx and ny, two bytes each; the step number, four; then the 64 bits of every entry of f, eight bytes each, in the buffer's
+ * order. So it has 13 + 72 nx ny bytes, and a state has one file: accepted files with equal sides, step and entries are equal
+ * bytes.
+ *
+ * What the caller sees to. No pointer is NULL, not even beside a length of 0; each is to 8-byte aligned memory, but for a
+ * file's, and nothing that is lent (settings and answers too) overlaps. The caller's floating-point mode is the usual one:
+ * rounding to nearest even, subnormals kept (no flush to zero, so no -ffast-math in the program that is linked). The library
+ * keeps nothing between calls; calls on different buffers may run at the same time.
  *
  * The processor. On x86-64 the library takes the highest level (x86-64, x86-64-v3, x86-64-v4) that the machine has, as the program
  * starts; every level gives the same bits. BROTHWAGON_LEVEL in the environment names a lower one. A word that is no level, or one
@@ -141,6 +150,19 @@ uint32_t brothwagon_run(const brothwagon_settings *settings, uint64_t steps, dou
 uint32_t brothwagon_run_to_steady_state(const brothwagon_settings *settings, double tolerance, uint64_t max_steps,
                                         uint64_t check_every, double *f, size_t f_length, double *post, size_t post_length,
                                         double *u, size_t u_length, uint64_t answer[3]);
+
+/* Writes the checkpoint file of f, with that step number, into file, which has 13 + 72 nx ny bytes.
+ * Numbers 1, 2; then file is as it was. */
+uint32_t brothwagon_write_checkpoint(const brothwagon_settings *settings, uint32_t step, const double *f, size_t f_length,
+                                     uint8_t *file, size_t file_length);
+
+/* The sides and the step number of a checkpoint file, so that a buffer that fits can be lent: answer is {nx, ny, step}.
+ * Numbers 12, 13, 14, 1, 15; then answer is {0, 0, 0}. */
+uint32_t brothwagon_checkpoint_sides(const uint8_t *file, size_t file_length, uint64_t answer[3]);
+
+/* Reads a checkpoint file into f, which has 9 nx ny entries by the file's sides: answer is {nx, ny, step}.
+ * Numbers 12, 13, 14, 1, 15, 2; then f is as it was and answer is {0, 0, 0}. */
+uint32_t brothwagon_read_checkpoint(const uint8_t *file, size_t file_length, double *f, size_t f_length, uint64_t answer[3]);
 
 /* The direction with these two components.
  * Number 11; then direction is 0. */

@@ -1,5 +1,6 @@
 //! Times the port, on each of its levels, against the Rust that it carries over, and checks that all end alike.
 
+mod checkpoint;
 mod picture;
 mod runner;
 mod study;
@@ -21,6 +22,7 @@ use table::{Line, Report};
 const HELP: &str = "\
 bench/run [SOURCE] [--quick] [--seconds S] [--sides N,..] [--kinds KIND,..] [--densities N,..] [--machine NAME] [--svg FILE]
           [--page FILE]
+bench/run [SOURCE] --checkpoints [--quick] [--machine NAME]
 
 Times the port against the Rust of SOURCE (../shared/docs/src by default), built for release: closed boxes of 240, 256, 512
 and 1024 cells a side, from a start at density 1 and one at density 10, with Trt (magic number 3/16), Bgk and Mrt, each
@@ -34,9 +36,13 @@ bit. The table has the milliseconds of a step of the Rust, and for the others th
 then the part of the highest level's time that the copy takes: from a half on, memory is what limits that line, below it the
 arithmetic.
 
---sides, --kinds (trt, bgk, mrt) and --densities narrow it. --svg draws the table; --page puts it, in Markdown, between the
-lines `<!-- measured -->` and `<!-- end of measured -->` of FILE. --machine is the name that both give the machine. Exit
-status: 0 done, 1 the ends differ or a worker failed, 2 the words are not understood.";
+Last, or alone (--checkpoints), come checkpoint files of 1024 by 1024 cells: on each level, the milliseconds of a plain copy
+of a file's bytes, and how many times as long it takes to write and to read one, again by the shortest of the turns. What is
+written and read must be as the format has it, byte for byte.
+
+--sides, --kinds (trt, bgk, mrt) and --densities narrow the table. --svg draws it; --page puts it and the checkpoints, in
+Markdown, between the lines `<!-- measured -->` and `<!-- end of measured -->` of FILE. --machine is the name that both give
+the machine. Exit status: 0 done, 1 the ends differ or a worker failed, 2 the words are not understood.";
 
 const FROM: &str = "<!-- measured -->\n";
 const TO: &str = "<!-- end of measured -->\n";
@@ -51,12 +57,15 @@ struct Plan {
     machine: String,
     svg: Option<PathBuf>,
     page: Option<PathBuf>,
+    /// The checkpoint files alone.
+    checkpoints: bool,
 }
 
 fn main() -> ExitCode {
     let words: Vec<String> = env::args().skip(1).collect();
     let words: Vec<&str> = words.iter().map(String::as_str).collect();
     let ended = match words[..] {
+        ["--worker", "checkpoint"] => checkpoint::work(),
         ["--worker", role] => worker::work(role),
         ["--help"] => {
             println!("{HELP}");
@@ -89,26 +98,27 @@ fn plan(words: &[&str]) -> Option<Plan> {
         machine: machine(),
         svg: None,
         page: None,
+        checkpoints: false,
     };
     let mut words = words.iter();
     while let Some(&word) = words.next() {
-        if word == "--quick" {
-            (plan.seconds, plan.turns) = (0.3, 3);
-            continue;
-        }
-        let value = words.next()?;
+        let mut value = || words.next().copied();
         match word {
-            "--seconds" => plan.seconds = value.parse().ok().filter(|&seconds| seconds > 0.0)?,
-            "--sides" => plan.sides = each(value, |side| side.parse().ok())?,
-            "--kinds" => plan.kinds = each(value, |kind| KINDS.iter().position(|&(word, _)| word == kind))?,
-            "--densities" => plan.densities = each(value, |density| density.parse().ok())?,
-            "--machine" => plan.machine = value.to_string(),
-            "--svg" => plan.svg = Some(value.into()),
-            "--page" => plan.page = Some(value.into()),
+            "--quick" => (plan.seconds, plan.turns) = (0.3, 3),
+            "--checkpoints" => plan.checkpoints = true,
+            "--seconds" => plan.seconds = value()?.parse().ok().filter(|&seconds| seconds > 0.0)?,
+            "--sides" => plan.sides = each(value()?, |side| side.parse().ok())?,
+            "--kinds" => plan.kinds = each(value()?, |kind| KINDS.iter().position(|&(word, _)| word == kind))?,
+            "--densities" => plan.densities = each(value()?, |density| density.parse().ok())?,
+            "--machine" => plan.machine = value()?.to_string(),
+            "--svg" => plan.svg = Some(value()?.into()),
+            "--page" => plan.page = Some(value()?.into()),
             _ => return None,
         }
     }
-    Some(plan)
+    // A page and a picture are of the whole table.
+    let alone = plan.checkpoints && plan.svg.is_none() && plan.page.is_none();
+    (alone || !plan.checkpoints).then_some(plan)
 }
 
 /// The values of a list.
@@ -131,27 +141,38 @@ fn machine() -> String {
     }
 }
 
-/// Times all lines of a plan, prints them, and writes what the plan asks for.
+/// Times what a plan asks for, prints it, and writes the picture and the page.
 fn bench(plan: &Plan) -> io::Result<()> {
     // A page that cannot be filled in is known before anything is timed.
     let page = plan.page.as_ref().map(|path| Ok::<_, io::Error>((path, parted(&fs::read_to_string(path)?)?))).transpose()?;
+    println!("{}", plan.machine);
+    let report = if plan.checkpoints { None } else { Some(steps(plan)?) };
+    let checkpoints = checkpoint::times(plan.turns)?;
+    println!("{}every file is as the format has it, byte for byte", checkpoint::text(&checkpoints));
+    let Some(report) = report else { return Ok(()) };
+    if let Some(path) = &plan.svg {
+        fs::write(path, picture::picture(&report))?;
+    }
+    if let Some((path, (before, after))) = page {
+        let tables = format!("{}\n{}", report.markdown(), checkpoint::markdown(&checkpoints));
+        fs::write(path, format!("{before}{FROM}\n{}.\n\n{tables}\n{TO}{after}", report.machine))?;
+    }
+    Ok(())
+}
+
+/// Times all lines of a plan, and prints them.
+fn steps(plan: &Plan) -> io::Result<Report> {
     let (mut runners, port) = runners()?;
     let names = runners.iter().map(|runner| runner.name.clone()).collect();
     let mut report = Report { machine: plan.machine.clone(), names, port, lines: Vec::new() };
-    println!("{}\n{}", report.machine, report.heading());
+    println!("{}", report.heading());
     for study in studies(plan) {
         let line = Line { study, times: times(&mut runners, &study, plan)? };
         println!("{}", line.text(&report));
         report.lines.push(line);
     }
     println!("{} lines; in each the Rust and the port end alike, bit for bit", report.lines.len());
-    if let Some(path) = &plan.svg {
-        fs::write(path, picture::picture(&report))?;
-    }
-    if let Some((path, (before, after))) = page {
-        fs::write(path, format!("{before}{FROM}\n{}.\n\n{}\n{TO}{after}", report.machine, report.markdown()))?;
-    }
-    Ok(())
+    Ok(report)
 }
 
 /// What stands before and after the measured part of a page.

@@ -19,7 +19,7 @@ pub struct Runner {
 }
 
 impl Runner {
-    /// Starts the program at `path` as a worker: `role` is rust, port or copy, `level` the level of the port.
+    /// Starts the program at `path` as a worker: `role` is rust, port, copy or checkpoint, `level` the level of the port.
     pub fn start(path: &Path, name: &str, role: &str, level: Option<&str>) -> io::Result<Runner> {
         let mut command = Command::new(path);
         command.args(["--worker", role]).stdin(Stdio::piped()).stdout(Stdio::piped());
@@ -30,7 +30,8 @@ impl Runner {
         Ok(Runner { name: name.to_string(), steps: role != "copy", child, to, from })
     }
 
-    fn ask(&mut self, line: &str) -> io::Result<String> {
+    /// What it answers to a line.
+    pub fn ask(&mut self, line: &str) -> io::Result<String> {
         writeln!(self.to, "{line}")?;
         let mut answer = String::new();
         self.from.read_line(&mut answer)?;
@@ -47,8 +48,12 @@ impl Runner {
 
     /// How long it took for so many steps.
     pub fn turn(&mut self, steps: u64) -> io::Result<Duration> {
-        let answer = self.ask(&format!("turn {steps}"))?;
-        answer.parse().map(Duration::from_nanos).map_err(|_| self.stopped())
+        self.timed(&format!("turn {steps}"))
+    }
+
+    /// How long it took for what a line asks.
+    pub fn timed(&mut self, line: &str) -> io::Result<Duration> {
+        self.ask(line)?.parse().map(Duration::from_nanos).map_err(|_| self.stopped())
     }
 
     /// Hands each stretch of the bytes of its two buffers to `see`.

@@ -2,11 +2,13 @@
 
 mod call;
 mod case;
+mod checkpoints;
 mod comparison;
 mod differences;
 mod expected;
 mod levels;
 mod made;
+mod progress;
 mod random;
 mod rules;
 mod shrink;
@@ -14,14 +16,14 @@ mod studies;
 
 use case::{BUFFERS, Case, OPERATIONS};
 use comparison::{Comparison, Difference};
+use progress::Progress;
 use source::levels::{as_asked, level};
 use std::env;
-use std::io::{IsTerminal, Write, stderr};
 use std::process::ExitCode;
-use std::time::{Duration, Instant};
 
 const HELP: &str = "\
 compare/run [SOURCE] [--cases N] [--seed N] [--quick] [--only PLACE]
+compare/run [SOURCE] --checkpoints [--cases N] [--seed N] [--quick] [--only PLACE]
 compare/run [SOURCE] --studies [--whole]
 compare/run [SOURCE] --differences
 compare/run [SOURCE] .. --levels
@@ -30,10 +32,17 @@ Compares the proved library with the Rust of SOURCE (../shared/docs/src by defau
 cases (1,000,000; --quick: 100,000). Each case is one call: its number, its answers and every entry of every lent buffer are
 compared, and so are refused calls, by the table of the rules. --only compares one case of the list that the seed starts,
 and shows it. The first difference that is not listed ends it, with the smallest case found that still differs, and exit
-status 1. --studies runs each study of the repository for 20 steps instead, or for all its steps (--whole), prints the
-fingerprint that the Rust gives it, and ends with status 1 where the library gives another, or where a study is not
-physical: a speed of 0.3 or more, a number that is not finite, or a mass that drifts without inlet or outlet. --differences
-asks both what docs/DIFFERENCES.md records, and ends with status 1 where either answers otherwise.
+status 1.
+
+Before the cases, or alone (--checkpoints), come checkpoint files, which the Rust does not know: the library is compared
+with a reading of the format's own words. It is given every prefix of two small files, every value of each byte before the
+entries, and sides and lengths about their limits; then it writes N made-up states and reads them back, and reads N files
+that are spoiled. The number, the answer and all that is lent are compared. With --checkpoints, --only picks one of these.
+
+--studies runs each study of the repository for 20 steps instead, or for all its steps (--whole), prints the fingerprint
+that the Rust gives it, and ends with status 1 where the library gives another, or where a study is not physical: a speed of
+0.3 or more, a number that is not finite, or a mass that drifts without inlet or outlet. --differences asks both what
+docs/DIFFERENCES.md records, and ends with status 1 where either answers otherwise.
 
 The library runs on the highest level of the processor that the machine has, or on the one that BROTHWAGON_LEVEL in the
 environment names. --levels, with any of the above, compares on each in turn, from the lowest. Status 2: the words are not
@@ -44,6 +53,8 @@ struct Plan {
     seed: u64,
     cases: u64,
     only: Option<u64>,
+    /// The checkpoint files alone.
+    checkpoints: bool,
 }
 
 /// What has been compared.
@@ -75,7 +86,12 @@ fn main() -> ExitCode {
         println!("{HELP}");
         return if words == ["--help"] { ExitCode::SUCCESS } else { ExitCode::from(2) };
     };
-    made_up(&plan)
+    // One case is compared without the files.
+    let with_files = plan.checkpoints || plan.only.is_none();
+    if with_files && !checkpoints::compare(&plan) {
+        return ExitCode::FAILURE;
+    }
+    if plan.checkpoints { ExitCode::SUCCESS } else { made_up(&plan) }
 }
 
 /// Compares the made-up cases of a plan.
@@ -101,14 +117,14 @@ fn made_up(plan: &Plan) -> ExitCode {
                 return ExitCode::FAILURE;
             }
         }
-        progress.show(&tally);
+        progress.show(|| format!("{} cases, {} entries", tally.cases, tally.entries));
     }
     report(plan, &tally, &comparison);
     reached_all(&tally)
 }
 
 fn plan(words: &[&str]) -> Option<Plan> {
-    let mut plan = Plan { seed: 1, cases: 1_000_000, only: None };
+    let mut plan = Plan { seed: 1, cases: 1_000_000, only: None, checkpoints: false };
     let mut words = words.iter();
     while let Some(word) = words.next() {
         let mut number = || words.next()?.parse().ok();
@@ -117,6 +133,7 @@ fn plan(words: &[&str]) -> Option<Plan> {
             "--cases" => plan.cases = number()?,
             "--only" => plan.only = Some(number()?),
             "--quick" => plan.cases = 100_000,
+            "--checkpoints" => plan.checkpoints = true,
             _ => return None,
         }
     }
@@ -160,27 +177,4 @@ fn reached_all(tally: &Tally) -> ExitCode {
         return ExitCode::FAILURE;
     }
     ExitCode::SUCCESS
-}
-
-/// How far it is, on a terminal.
-struct Progress {
-    began: Instant,
-    next: Duration,
-}
-
-impl Progress {
-    fn new() -> Progress {
-        Progress { began: Instant::now(), next: Duration::from_secs(1) }
-    }
-
-    fn show(&mut self, tally: &Tally) {
-        if !tally.cases.is_multiple_of(64) || self.began.elapsed() < self.next {
-            return;
-        }
-        self.next = self.began.elapsed() + Duration::from_secs(1);
-        if stderr().is_terminal() {
-            // Progress that cannot be shown is no reason to stop.
-            let _ = write!(stderr(), "\r\x1b[K{} cases, {} entries\r", tally.cases, tally.entries);
-        }
-    }
 }

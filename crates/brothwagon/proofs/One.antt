@@ -7,7 +7,7 @@ use denote.Triple.Clauses.{AtExit}
 use borrow.Fn.World.{ArgsD}
 use Rattle.settings.proofs.Outcome.{both}
 use Rattle.runs.proofs.One.{all-stepped}
-use Rattle.brothwagon.specs.Exported.{SteadyTold}
+use Rattle.brothwagon.specs.Exported.{ReadTold, SteadyTold}
 use Rattle.brothwagon.proofs.brothwagon_initialize
 use Rattle.brothwagon.proofs.brothwagon_initialize.Reads as initialize-reads
 use Rattle.brothwagon.proofs.brothwagon_density
@@ -34,6 +34,12 @@ use Rattle.brothwagon.proofs.brothwagon_run
 use Rattle.brothwagon.proofs.brothwagon_run.Reads as run-reads
 use Rattle.brothwagon.proofs.brothwagon_run_to_steady_state
 use Rattle.brothwagon.proofs.brothwagon_run_to_steady_state.Reads as run-to-steady-state-reads
+use Rattle.brothwagon.proofs.brothwagon_write_checkpoint
+use Rattle.brothwagon.proofs.brothwagon_write_checkpoint.Reads as write-checkpoint-reads
+use Rattle.brothwagon.proofs.brothwagon_checkpoint_sides
+use Rattle.brothwagon.proofs.brothwagon_checkpoint_sides.Reads as checkpoint-sides-reads
+use Rattle.brothwagon.proofs.brothwagon_read_checkpoint
+use Rattle.brothwagon.proofs.brothwagon_read_checkpoint.Reads as read-checkpoint-reads
 use Rattle.brothwagon.proofs.brothwagon_dir_index
 use Rattle.brothwagon.proofs.brothwagon_dir_index.Reads as dir-index-reads
 
@@ -83,7 +89,21 @@ pub dir-index-one : (κs : Lfts 1) (a : ArgsD brothwagon_dir_index.signature κs
     → dir-index-reads.Post κs a r s → dir-index-reads.Post κs a q t → (r ≡ q) × (now (s .1 .1 .0) ≡ now (t .1 .1 .0))
 dir-index-one κs a r q s t p p' = both (p ∙ sym p')
 
+pub write-checkpoint-one : (κs : Lfts 3) (a : ArgsD brothwagon_write_checkpoint.signature κs) (r q : ℕ) (s t : AtExit brothwagon_write_checkpoint.ended κs)
+    → write-checkpoint-reads.Post κs a r s → write-checkpoint-reads.Post κs a q t → (r ≡ q) × (now (s .1 .1 .1 .0) ≡ now (t .1 .1 .1 .0))
+write-checkpoint-one κs a r q s t p p' = both (p ∙ sym p')
+
+pub checkpoint-sides-one : (κs : Lfts 2) (a : ArgsD brothwagon_checkpoint_sides.signature κs) (r q : ℕ) (s t : AtExit brothwagon_checkpoint_sides.ended κs)
+    → checkpoint-sides-reads.Post κs a r s → checkpoint-sides-reads.Post κs a q t → (r ≡ q) × (now (s .1 .0) ≡ now (t .1 .0))
+checkpoint-sides-one κs a r q s t p p' = both (p ∙ sym p')
+
 -- ---- the number, and two buffers
+
+pub read-checkpoint-one : (κs : Lfts 3) (a : ArgsD brothwagon_read_checkpoint.signature κs) (r q : ℕ) (s t : AtExit brothwagon_read_checkpoint.ended κs)
+    → read-checkpoint-reads.Post κs a r s → read-checkpoint-reads.Post κs a q t → (r ≡ q) × (now (s .1 .1 .0) ≡ now (t .1 .1 .0)) × (now (s .1 .0) ≡ now (t .1 .0))
+read-checkpoint-one κs a r q s t p p' =
+    let e = p ∙ sym p' in
+    (ap (λ (w : ReadTold). w .number) e, ap (λ (w : ReadTold). w .answer) e, ap (λ (w : ReadTold). w .f) e)
 
 pub step-one : (κs : Lfts 3) (a : ArgsD brothwagon_step.signature κs) (r q : ℕ) (s t : AtExit brothwagon_step.ended κs)
     → step-reads.Post κs a r s → step-reads.Post κs a q t → (r ≡ q) × (now (s .1 .0) ≡ now (t .1 .0)) × (now (s .1 .1 .0) ≡ now (t .1 .1 .0))

@@ -14,6 +14,8 @@ use Rattle.readings.specs.declared.Reading.{Reading}
 use Rattle.readings.specs.declared.VelocityReading.{VelocityReading}
 use Rattle.readings.specs.Readings.{planeStart, planeLength}
 use Rattle.runs.specs.Steady.{Values, SteadyRun}
+use Rattle.checkpoint.specs.declared.Stored.{Stored}
+use Rattle.checkpoint.specs.Checkpoint.{Read}
 
 -- ---- a number, and a small buffer with the answer, which every call writes
 
@@ -35,6 +37,22 @@ losslessTold r = record { number = r .number; buffer = r .values }
 
 abbrev pub directionTold : Found → Written
 directionTold r = record { number = r .number; buffer = r .direction ∷ [] }
+
+abbrev pub storedTold : Stored → Written
+storedTold r = record { number = r .number; buffer = r .nx ∷ r .ny ∷ r .step ∷ [] }
+
+-- ---- a checkpoint that is read: the number, the answer, and the populations
+
+pub record ReadTold : Type 0 where
+  pub number : ℕ
+  pub answer : List ℕ
+  pub f : List ℕ
+
+abbrev pub readLeft : ℕ → List ℕ → List ℕ → ReadTold
+readLeft number answer f = record { number = number; answer = answer; f = f }
+
+abbrev pub readTold : Read → ReadTold
+readTold r = let told = storedTold (r .stored) in readLeft (told .number) (told .buffer) (r .f)
 
 -- ---- the steady run: the number, the answer, and the three buffers
 

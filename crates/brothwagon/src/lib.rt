@@ -1,5 +1,6 @@
-// The library for hosts in other languages: each function takes the settings as nineteen words and asks one operation.
+// The library for hosts in other languages: each function asks one operation, and takes settings as nineteen words.
 // include/brothwagon.h is its face in C. What a host lends for a small answer is always written, with zeros on a refusal.
+use checkpoint::Stored;
 use lossless::Answer;
 use runs::Steady;
 ghost use mathlib.Core.Path.{_≡_};
@@ -10,8 +11,9 @@ ghost use Rattle.lossless.specs.Lossless.{reply, losslessOf, reversedOf};
 ghost use Rattle.readings.specs.Readings.{initialized, densityRead, velocityRead, velocityFieldRead, totalMassRead, kineticEnergyRead};
 ghost use Rattle.runs.specs.Steps.{left, stepOf, runOf};
 ghost use Rattle.runs.specs.Steady.{steadyOf};
+ghost use Rattle.checkpoint.specs.Checkpoint.{checkpointWritten, checkpointSides, checkpointRead};
 ghost use Rattle.host.specs.Host.{settingsOf};
-ghost use Rattle.brothwagon.specs.Exported.{readingTold, velocityTold, planeTold, losslessTold, directionTold, steadyLeft, steadyTold};
+ghost use Rattle.brothwagon.specs.Exported.{readingTold, velocityTold, planeTold, losslessTold, directionTold, steadyLeft, steadyTold, storedTold, readLeft, readTold};
 
 // ---- the start and the readings
 
@@ -194,6 +196,50 @@ pub extern "C" fn brothwagon_run_to_steady_state(
             9
         }
     }
+}
+
+// ---- the checkpoint file
+
+#[no_mangle]
+pub extern "C" fn brothwagon_write_checkpoint(
+    w: &[u64; 19],
+    step: u32,
+    f: &[u64],
+    file: &mut [u8],
+) -> u32
+    ensures { λ r. ⌜ outcome r (now (file .exit))
+        ≡ checkpointWritten (settingsOf (now (w .entry))) step (now (f .entry)) (now (file .entry)) ⌝ }
+{
+    checkpoint::write_checkpoint(host::settings_of(w), step, f, file)
+}
+
+fn told(a: Stored) -> [u64; 3]
+    ensures { λ r. ⌜ r ≡ storedTold a .buffer ⌝ }
+{
+    [a.nx as u64, a.ny as u64, a.step]
+}
+
+#[no_mangle]
+pub extern "C" fn brothwagon_checkpoint_sides(file: &[u8], answer: &mut [u64; 3]) -> u32
+    ensures { λ r. ⌜ outcome r (now (answer .exit)) ≡ storedTold (checkpointSides (now (file .entry))) ⌝ }
+{
+    let a = checkpoint::checkpoint_sides(file);
+    *answer = told(a);
+    a.number
+}
+
+#[no_mangle]
+pub extern "C" fn brothwagon_read_checkpoint(
+    file: &[u8],
+    f: &mut [u64],
+    answer: &mut [u64; 3],
+) -> u32
+    ensures { λ r. ⌜ readLeft r (now (answer .exit)) (now (f .exit))
+        ≡ readTold (checkpointRead (now (file .entry)) (now (f .entry))) ⌝ }
+{
+    let a = checkpoint::read_checkpoint(file, f);
+    *answer = told(a);
+    a.number
 }
 
 // ---- the lattice

@@ -10,7 +10,6 @@ use crate::given::x_max;
 use crate::given::x_min;
 use crate::given::y_max;
 use crate::given::y_min;
-use crate::show;
 use cell::Collision;
 use settings::Face;
 use settings::Settings;

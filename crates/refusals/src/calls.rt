@@ -1,10 +1,9 @@
 // Each operation, called on lent buffers full of canaries. What is lent as `&` cannot be written; the rest is looked at.
-use crate::show;
-use crate::show::kept;
-use crate::show::zero;
 use lossless::Answer;
 use runs::Steady;
 use settings::Settings;
+use show::kept;
+use show::zero;
 
 pub fn initialize(case: &[u8], s: Settings, table: &[u64], f: &mut [u64]) {
     let number = readings::initialize(s, table, f);

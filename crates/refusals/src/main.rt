@@ -5,7 +5,6 @@ mod given;
 mod lengths;
 mod refused;
 mod ruined;
-mod show;
 
 fn main() {
     refused::all();

@@ -11,10 +11,10 @@ use crate::given::x_max;
 use crate::given::x_min;
 use crate::given::y_max;
 use crate::given::y_min;
-use crate::show::CANARY;
 use cell::Collision;
 use settings::Face;
 use settings::Settings;
+use show::CANARY;
 
 const F: [u64; 54] = [CANARY; 54];
 

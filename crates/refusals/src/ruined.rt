@@ -1,10 +1,10 @@
 // Number 9, on 1 by 1: what a steady run leaves where a snapshot is bad.
 use crate::calls::steady_number;
 use crate::given::sized;
-use crate::show;
-use crate::show::CANARY;
-use crate::show::kept;
 use runs::Steady;
+use show::CANARY;
+use show::kept;
+use show::same;
 
 const MINUS_INFINITY: u64 = 0xfff0_0000_0000_0000;
 
@@ -15,17 +15,6 @@ fn steps_taken(a: Steady) -> u64 {
         Steady::RanOut(steps, _) => steps,
         Steady::Ruined(steps) => steps,
     }
-}
-
-fn same(a: [u64; 9], b: [u64; 9]) -> bool {
-    let mut i = 0;
-    while i < 9 {
-        if a[i] != b[i] {
-            return false;
-        }
-        i += 1;
-    }
-    true
 }
 
 fn gives(case: &[u8], a: Steady) {

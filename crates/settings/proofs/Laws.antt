@@ -1,16 +1,17 @@
 -- What the tests tell where they do not hold, and so what is known of a call that is not refused.
-use mathlib.Core.Path.{_≡_, refl}
+use mathlib.Core.Path.{_≡_, refl, sym}
 use mathlib.Core.Bool.{Bool, true, false, cond, _||_}
 use mathlib.Core.List.{List, [], _∷_}
-use Prim.Native.Nat.{ℕ, zero, suc, _*_, _≤_, _<_}
+use Prim.Native.Nat.{ℕ, zero, suc, _+_, _*_, _≤_, _<_}
 use native.Mathlib.Omega.{arith}
 use lib.Dec.{T, leb, ltb}
 use lib.Ieee.{isNan}
 use borrow.Author.Tests.{ltb-false, leb-false, eqb-true, not-false}
 use Rattle.grid.specs.Grid.{Grid, mostSide, mostCells}
+use Rattle.settings.specs.declared.Head.{Head}
 use Rattle.settings.specs.declared.Settings.{Settings}
-use Rattle.settings.specs.Tests.{sideBad, sidesBad, lengthBad, ratesBad, forceBad, facesBad, stepsBad, mostSteps, placeBad, directionBad, driven, lossy}
-use Rattle.settings.specs.Refusals.{Test, row, first, Call, tests, refusal, sides, lengths, rates, force, faces, kinds, losses, tolerance, steps, place, direction}
+use Rattle.settings.specs.Tests.{sideBad, sidesBad, lengthBad, bytesBad, ratesBad, forceBad, facesBad, stepsBad, mostSteps, placeBad, directionBad, driven, lossy, countBad}
+use Rattle.settings.specs.Refusals.{Test, row, first, Call, tests, refusal, sides, lengths, rates, force, faces, kinds, losses, tolerance, steps, place, direction, bytes, short, version, cut, stored, counted, lent}
 
 -- ---- what a test tells
 
@@ -21,6 +22,11 @@ pub record Inside (s : Settings) (x y : ℕ) : Type 0 where
   pub column : x < s .nx
   pub row : y < s .ny
 
+-- a file of the length that its sides ask for, which its count tells
+pub record Counted (h : Head) : Type 0 where
+  pub count : h .count ≡ 9 + 72 * (h .nx * h .ny)
+  pub size : h .length ≡ 13 + 72 * (h .nx * h .ny)
+
 pub or-left : (a b : Bool) → a || b ≡ false → a ≡ false
 or-left false b e = refl
 or-left true b e = e
@@ -29,6 +35,12 @@ pub or-right : (a b : Bool) → a || b ≡ false → b ≡ false
 or-right false b e = e
 or-right true false e = refl
 or-right true true e = e
+
+-- two tests that fail together are one
+pub same-test : (a b : Bool) → (a ≡ false → b ≡ false) → (b ≡ false → a ≡ false) → a ≡ b
+same-test false b f g = sym (f refl)
+same-test true false f g = g refl
+same-test true true f g = refl
 
 side-some : (n : ℕ) → sideBad n ≡ false → 1 ≤ n
 side-some n e = ltb-false n 1 (or-left (ltb n 1) (ltb mostSide n) e)
@@ -53,6 +65,20 @@ sides-ok nx ny e =
 pub length-ok : (nx ny per len : ℕ) → lengthBad nx ny per len ≡ false → len ≡ per * (nx * ny)
 unfolding lengthBad
 length-ok nx ny per len e = eqb-true len (per * (nx * ny)) (not-false _ e)
+
+pub bytes-ok : (nx ny head len : ℕ) → bytesBad nx ny head len ≡ false → len ≡ head + 72 * (nx * ny)
+unfolding bytesBad
+bytes-ok nx ny head len e = eqb-true len (head + 72 * (nx * ny)) (not-false _ e)
+
+count-ok : (h : Head) → countBad h ≡ false → Counted h
+unfolding countBad
+count-ok h e =
+    let counts = bytesBad (h .nx) (h .ny) 9 (h .count) in
+    let fits = bytesBad (h .nx) (h .ny) 13 (h .length) in
+    record {
+      count = bytes-ok (h .nx) (h .ny) 9 (h .count) (or-left counts fits e);
+      size = bytes-ok (h .nx) (h .ny) 13 (h .length) (or-right counts fits e);
+    }
 
 pub steps-ok : (n : ℕ) → stepsBad n ≡ false → n ≤ mostSteps
 steps-ok n e = ltb-false mostSteps n e
@@ -80,6 +106,13 @@ Tells (kinds s) = driven s ≡ false
 Tells (losses s) = lossy s ≡ false
 Tells (tolerance t) = isNan t ≡ false
 Tells (steps n) = n ≤ mostSteps
+Tells (bytes s len) = len ≡ 13 + 72 * (s .nx * s .ny)
+Tells (short h) = 5 ≤ h .length
+Tells (version h) = h .version ≡ 1
+Tells (cut h) = 9 ≤ h .length
+Tells (stored h) = Grid (h .nx) (h .ny)
+Tells (counted h) = Counted h
+Tells (lent h per len) = len ≡ per * (h .nx * h .ny)
 
 tells : (t : Test) → row t .bad ≡ false → Tells t
 tells (sides s) e = sides-ok (s .nx) (s .ny) e
@@ -93,11 +126,18 @@ tells (kinds s) e = e
 tells (losses s) e = e
 tells (tolerance t) e = e
 tells (steps n) e = steps-ok n e
+tells (bytes s len) e = bytes-ok (s .nx) (s .ny) 13 len e
+tells (short h) e = ltb-false (h .length) 5 e
+tells (version h) e = eqb-true (h .version) 1 (not-false _ e)
+tells (cut h) e = ltb-false (h .length) 9 e
+tells (stored h) e = sides-ok (h .nx) (h .ny) e
+tells (counted h) e = count-ok h e
+tells (lent h per len) e = length-ok (h .nx) (h .ny) per len e
 
 -- ---- what a call that is not refused tells
 
 -- the number is 0, so the test does not hold, and the later ones give 0
-none : (bad : Bool) (number later : ℕ) → T (ltb 0 number) → cond bad number later ≡ 0 → (bad ≡ false) × (later ≡ 0)
+pub none : (bad : Bool) (number later : ℕ) → T (ltb 0 number) → cond bad number later ≡ 0 → (bad ≡ false) × (later ≡ 0)
 none true zero later h e = absurd h
 none true (suc n) later h e = absurd (omega (arith, e))
 none false number later h e = (refl, e)
@@ -114,6 +154,13 @@ positive (kinds s) = tt
 positive (losses s) = tt
 positive (tolerance t) = tt
 positive (steps n) = tt
+positive (bytes s len) = tt
+positive (short h) = tt
+positive (version h) = tt
+positive (cut h) = tt
+positive (stored h) = tt
+positive (counted h) = tt
+positive (lent h per len) = tt
 
 -- each test of the list tells its own
 abbrev pub All : List Test → Type 0

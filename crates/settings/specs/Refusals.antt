@@ -4,7 +4,8 @@ use mathlib.Core.List.{List, [], _∷_}
 use Prim.Native.Nat.{ℕ}
 use lib.Dec.{eqb}
 use lib.Ieee.{Float}
-use Rattle.settings.specs.Tests.{sidesBad, lengthBad, ratesBad, forceBad, facesBad, toleranceBad, stepsBad, placeBad, directionBad, driven, lossy}
+use Rattle.settings.specs.Tests.{sidesBad, lengthBad, bytesBad, ratesBad, forceBad, facesBad, toleranceBad, stepsBad, placeBad, directionBad, driven, lossy, shortBad, versionBad, cutBad, countBad}
+use Rattle.settings.specs.declared.Head.{Head}
 use Rattle.settings.specs.declared.Settings.{Settings}
 
 -- ---- the tests and their numbers
@@ -17,6 +18,9 @@ pub data Test : Type 0 where
   steps : (n : ℕ) → Test
   place : (s : Settings) (x y : ℕ) → Test
   direction : (i : ℕ) → Test
+  bytes : (s : Settings) (len : ℕ) → Test
+  short version cut stored counted : (h : Head) → Test
+  lent : (h : Head) (per len : ℕ) → Test
 
 -- a number, and whether its test holds
 pub record Row : Type 0 where
@@ -39,6 +43,13 @@ row (kinds s) = 7 when driven s
 row (losses s) = 8 when lossy s
 row (tolerance t) = 10 when toleranceBad t
 row (steps n) = 10 when stepsBad n
+row (bytes s len) = 2 when bytesBad (s .nx) (s .ny) 13 len
+row (short h) = 12 when shortBad h
+row (version h) = 13 when versionBad h
+row (cut h) = 14 when cutBad h
+row (stored h) = 1 when sidesBad (h .nx) (h .ny)
+row (counted h) = 15 when countBad h
+row (lent h per len) = 2 when lengthBad (h .nx) (h .ny) per len
 
 -- the number of the first test that holds, and where none does, the last argument
 abbrev pub first : List Test → ℕ → ℕ
@@ -47,8 +58,9 @@ first (t ∷ rest) later = cond (row t .bad) (row t .number) (first rest later)
 
 -- ---- the order in which the numbers are tested
 
+-- 1, 2, 3, 4, 5, 10, 6, 7, 8, 11, and of a file 12, 13, 14, 1, 15, 2: both stand in this one
 abbrev pub order : List ℕ
-order = 1 ∷ 2 ∷ 3 ∷ 4 ∷ 5 ∷ 10 ∷ 6 ∷ 7 ∷ 8 ∷ 11 ∷ []
+order = 12 ∷ 13 ∷ 14 ∷ 1 ∷ 15 ∷ 2 ∷ 3 ∷ 4 ∷ 5 ∷ 10 ∷ 6 ∷ 7 ∷ 8 ∷ 11 ∷ []
 
 -- the list from its first test with another number
 abbrev pub past : ℕ → List Test → List Test
@@ -63,7 +75,8 @@ follows (n ∷ later) ts = follows later (past n ts)
 
 -- ---- the operations
 
--- a call: its settings, the lengths of its lent buffers, and the numbers that are tested (i a direction, n steps, t a tolerance)
+-- a call: its settings or the head of its file, the lengths of its lent buffers, and the numbers that are tested
+-- (i a direction, n steps, t a tolerance)
 pub data Call : Type 0 where
   initialize : (s : Settings) (table f : ℕ) → Call
   density : (s : Settings) (f x y : ℕ) → Call
@@ -78,6 +91,9 @@ pub data Call : Type 0 where
   step : (s : Settings) (f post : ℕ) → Call
   run : (s : Settings) (n f post : ℕ) → Call
   runToSteadyState : (s : Settings) (t : Float) (n f post u : ℕ) → Call
+  writeCheckpoint : (s : Settings) (f bytes : ℕ) → Call
+  checkpointSides : (h : Head) → Call
+  readCheckpoint : (h : Head) (f : ℕ) → Call
 
 -- what it tests. Populations and post-collision populations have nine entries a cell, an initial table three, a velocity buffer two
 abbrev pub tests : Call → List Test
@@ -97,6 +113,9 @@ tests (run s n f post) =
 tests (runToSteadyState s t n f post u) =
     sides s ∷ lengths s 9 f ∷ lengths s 9 post ∷ lengths s 2 u ∷ rates s ∷ force s ∷ faces s ∷ tolerance t
     ∷ steps n ∷ []
+tests (writeCheckpoint s f n) = sides s ∷ lengths s 9 f ∷ bytes s n ∷ []
+tests (checkpointSides h) = short h ∷ version h ∷ cut h ∷ stored h ∷ counted h ∷ []
+tests (readCheckpoint h f) = short h ∷ version h ∷ cut h ∷ stored h ∷ counted h ∷ lent h 9 f ∷ []
 
 -- the number that refuses the call, or 0
 abbrev pub refusal : Call → ℕ

@@ -1,7 +1,7 @@
 -- The tests that refuse a call, in the order in which they are made: each holds exactly where its number is to be given.
 -- Number 9 stands with the steady run, and 11 with the direction lookup.
 use mathlib.Core.Bool.{Bool, true, false, not, xor, _&&_, _||_}
-use Prim.Native.Nat.{ℕ, _*_}
+use Prim.Native.Nat.{ℕ, _+_, _*_}
 use lib.Dec.{eqb, leb, ltb}
 use lib.Ieee.{Float, isNan, eq, lt}
 use Rattle.number.specs.Number.{_⊕_, _⊖_, _⊗_, c0, c½, c1, c2, c3, notFinite}
@@ -15,6 +15,7 @@ use Rattle.cell.specs.declared.Collision.the-variants.{Bgk, Mrt, Trt}
 use Rattle.grid.specs.Grid.{mostSide, mostCells}
 use Rattle.settings.specs.declared.Face.{Face}
 use Rattle.settings.specs.declared.Face.the-variants.{Periodic, NoSlip, MovingWall, Symmetry, Velocity, Pressure}
+use Rattle.settings.specs.declared.Head.{Head}
 use Rattle.settings.specs.declared.Settings.{Settings}
 
 -- ---- 1: a side or the cell count is outside its range
@@ -29,6 +30,10 @@ sidesBad nx ny = sideBad nx || sideBad ny || ltb mostCells (nx * ny)
 
 unfoldable pub lengthBad : ℕ → ℕ → ℕ → ℕ → Bool
 lengthBad nx ny per len = not (eqb len (per * (nx * ny)))
+
+-- or a file has it, which is not `head` bytes and nine entries of eight bytes for each cell
+unfoldable pub bytesBad : ℕ → ℕ → ℕ → ℕ → Bool
+bytesBad nx ny head len = not (eqb len (head + 72 * (nx * ny)))
 
 -- ---- 3: τ = 3.0·ν + 0.5 is not finite or below 0.5; or a Trt minus rate is not finite, below 0 or above 2
 
@@ -134,3 +139,23 @@ unfoldable pub lossy : Settings → Bool
 lossy s =
     unpaired (s .«x_min») (s .«x_max») || unpaired (s .«y_min») (s .«y_max»)
     || (isSymmetry (s .«x_min») || isSymmetry (s .«x_max»)) && not (isPeriodic (s .«y_min»)) && leb 2 (s .ny)
+
+-- ---- 12: fewer than five bytes, so no version
+
+abbrev pub shortBad : Head → Bool
+shortBad h = ltb (h .length) 5
+
+-- ---- 13: the version is not 1
+
+abbrev pub versionBad : Head → Bool
+versionBad h = not (eqb (h .version) 1)
+
+-- ---- 14: the sides are cut short: fewer than nine bytes
+
+abbrev pub cutBad : Head → Bool
+cutBad h = ltb (h .length) 9
+
+-- ---- 15: the count or the actual length is wrong
+
+unfoldable pub countBad : Head → Bool
+countBad h = bytesBad (h .nx) (h .ny) 9 (h .count) || bytesBad (h .nx) (h .ny) 13 (h .length)

@@ -7,7 +7,7 @@ ghost use mathlib.Core.Bool.{cond};
 ghost use mathlib.Core.List.{[], _∷_};
 ghost use Prim.Native.Nat.{_≤_};
 ghost use Rattle.settings.specs.Tests as Tests;
-ghost use Rattle.settings.specs.Tests.{sideBad, sidesBad, lengthBad, tauOf, tauBad, rateBad, faceBad, isPeriodic, isSymmetry};
+ghost use Rattle.settings.specs.Tests.{sideBad, sidesBad, lengthBad, bytesBad, tauOf, tauBad, rateBad, faceBad, isPeriodic, isSymmetry, countBad};
 ghost use Rattle.settings.specs.Refusals as Refusals;
 ghost use Rattle.settings.specs.Refusals.{first, refusal};
 
@@ -32,6 +32,16 @@ pub struct Settings {
     pub x_max: Face,
     pub y_min: Face,
     pub y_max: Face,
+}
+
+// The length of a checkpoint file, and what stands at its head: 0 for a part that the file does not have whole.
+pub struct Head {
+    pub length: usize,
+    pub count: usize,
+    pub version: usize,
+    pub nx: usize,
+    pub ny: usize,
+    pub step: u64,
 }
 
 pub const MOST_STEPS: u64 = 1_000_000;
@@ -64,6 +74,16 @@ fn length_bad(nx: usize, ny: usize, per: usize, len: usize) -> bool
     }
     let cells = len / per;
     (len % per != 0) | (cells % nx != 0) | (cells / nx != ny)
+}
+
+// Whether `len` is not that of `head` bytes and the nine entries, of eight bytes each, of every cell.
+fn bytes_bad(nx: usize, ny: usize, head: usize, len: usize) -> bool
+    ensures { λ r. ⌜ r ≡ bytesBad nx ny head len ⌝ }
+{
+    if len < head {
+        return true;
+    }
+    length_bad(nx, ny, 72, len - head)
 }
 
 pub fn tau(nu: f64) -> f64
@@ -164,6 +184,12 @@ pub fn lossy(s: Settings) -> bool
         | ((is_symmetry(x_min) | is_symmetry(x_max)) & !is_periodic(y_min) & (2 <= s.ny))
 }
 
+fn count_bad(h: Head) -> bool
+    ensures { λ r. ⌜ r ≡ countBad h ⌝ }
+{
+    bytes_bad(h.nx, h.ny, 9, h.count) | bytes_bad(h.nx, h.ny, 13, h.length)
+}
+
 // ---- the tests with their numbers: each gives its own where its test holds, and else what the later tests gave
 
 fn number_if(bad: bool, number: u32, later: u32) -> u32
@@ -256,6 +282,20 @@ fn losses(s: Settings, later: u32) -> u32
     ensures { λ r. ⌜ r ≡ first (Refusals.losses s ∷ []) later ⌝ }
 {
     number_if(lossy(s), 8, later)
+}
+
+// The tests of a checkpoint file by itself.
+fn file(h: Head, later: u32) -> u32
+    ensures { λ r. ⌜ r ≡ first (Refusals.short h ∷ Refusals.version h ∷ Refusals.cut h ∷ Refusals.stored h
+        ∷ Refusals.counted h ∷ []) later ⌝ }
+{
+    let miscounted = count_bad(h);
+    let outside = sides_bad(h.nx, h.ny);
+    let later = number_if(miscounted, 15, later);
+    let later = number_if(outside, 1, later);
+    let later = number_if(h.length < 9, 14, later);
+    let later = number_if(h.version != 1, 13, later);
+    number_if(h.length < 5, 12, later)
 }
 
 // ---- what each operation refuses, over the lengths of its lent buffers
@@ -361,4 +401,23 @@ pub fn run_to_steady_state_refusal(
 {
     let number = stepping(s, tolerance(t, steps(n, 0)));
     populations(s, f, lengths(s, 9, post, lengths(s, 2, u, number)))
+}
+
+// f and bytes are the lengths of the populations and of the file.
+pub fn write_checkpoint_refusal(s: Settings, f: usize, bytes: usize) -> u32
+    ensures { λ r. ⌜ r ≡ refusal (Refusals.writeCheckpoint s f bytes) ⌝ }
+{
+    populations(s, f, number_if(bytes_bad(s.nx, s.ny, 13, bytes), 2, 0))
+}
+
+pub fn checkpoint_sides_refusal(h: Head) -> u32
+    ensures { λ r. ⌜ r ≡ refusal (Refusals.checkpointSides h) ⌝ }
+{
+    file(h, 0)
+}
+
+pub fn read_checkpoint_refusal(h: Head, f: usize) -> u32
+    ensures { λ r. ⌜ r ≡ refusal (Refusals.readCheckpoint h f) ⌝ }
+{
+    file(h, number_if(length_bad(h.nx, h.ny, 9, f), 2, 0))
 }

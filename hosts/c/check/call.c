@@ -18,6 +18,9 @@ static uint64_t words[GUARD + ANSWERS + GUARD];
 static double *buffer(int which) { return &lent[which][GUARD]; }
 static const double *only_read(int which) { return buffer(which); }
 
+static uint8_t *file(const Call *c) { return (uint8_t *)buffer(CHECKPOINT) + c->file_at; }
+static const uint8_t *only_read_file(const Call *c) { return file(c); }
+
 static double *number_answer(void) { return &numbers[GUARD]; }
 static uint64_t *word_answer(void) { return &words[GUARD]; }
 
@@ -74,9 +77,21 @@ static uint32_t run_to_steady_state(const Call *c) {
                                           buffer(POST), c->length[POST], buffer(U), c->length[U], word_answer());
 }
 
+static uint32_t write_checkpoint(const Call *c) {
+    return brothwagon_write_checkpoint(&c->settings, c->step, only_read(F), c->length[F], file(c), c->length[CHECKPOINT]);
+}
+
+static uint32_t checkpoint_sides(const Call *c) {
+    return brothwagon_checkpoint_sides(only_read_file(c), c->length[CHECKPOINT], word_answer());
+}
+
+static uint32_t read_checkpoint(const Call *c) {
+    return brothwagon_read_checkpoint(only_read_file(c), c->length[CHECKPOINT], buffer(F), c->length[F], word_answer());
+}
+
 static uint32_t dir_index(const Call *c) { return brothwagon_dir_index(c->ex, c->ey, word_answer()); }
 
-/* The name; the call; whether f, post, u and table are lent; numbers and words of the answer; what is tested. */
+/* The name; the call; whether f, post, u, table and a file are lent; numbers and words of the answer; what is tested. */
 const Operation INITIALIZE = {"brothwagon_initialize", initialize, {1, 0, 0, 1}, 0, 0, {1, 2, 0}};
 const Operation DENSITY = {"brothwagon_density", density, {1, 0, 0, 0}, 1, 0, {1, 2, 6, 0}};
 const Operation VELOCITY = {"brothwagon_velocity", velocity, {1, 0, 0, 0}, 2, 0, {1, 2, 4, 6, 0}};
@@ -91,11 +106,17 @@ const Operation STEP = {"brothwagon_step", step_once, {1, 1, 0, 0}, 0, 0, {1, 2,
 const Operation RUN = {"brothwagon_run", run, {1, 1, 0, 0}, 0, 0, {1, 2, 3, 4, 5, 10, 0}};
 const Operation RUN_TO_STEADY_STATE = {
     "brothwagon_run_to_steady_state", run_to_steady_state, {1, 1, 1, 0}, 0, 3, {1, 2, 3, 4, 5, 10, 0}};
+const Operation WRITE_CHECKPOINT = {"brothwagon_write_checkpoint", write_checkpoint, {1, 0, 0, 0, 1}, 0, 0, {1, 2, 0}};
+const Operation CHECKPOINT_SIDES = {"brothwagon_checkpoint_sides", checkpoint_sides, {0, 0, 0, 0}, 0, 3,
+                                    {12, 13, 14, 1, 15, 0}};
+const Operation READ_CHECKPOINT = {"brothwagon_read_checkpoint", read_checkpoint, {1, 0, 0, 0}, 0, 3,
+                                   {12, 13, 14, 1, 15, 2, 0}};
 const Operation DIR_INDEX = {"brothwagon_dir_index", dir_index, {0, 0, 0, 0}, 0, 1, {11, 0}};
 
 const Operation *const ALL[OPERATIONS] = {
-    &INITIALIZE,        &DENSITY,  &VELOCITY, &VELOCITY_FIELD, &TOTAL_MASS, &KINETIC_ENERGY,      &PLANE,
-    &STREAM_WITH_FACES, &LOSSLESS, &REVERSE,  &STEP,           &RUN,        &RUN_TO_STEADY_STATE, &DIR_INDEX};
+    &INITIALIZE,        &DENSITY,         &VELOCITY, &VELOCITY_FIELD, &TOTAL_MASS, &KINETIC_ENERGY,      &PLANE,
+    &STREAM_WITH_FACES, &LOSSLESS,        &REVERSE,  &STEP,           &RUN,        &RUN_TO_STEADY_STATE, &WRITE_CHECKPOINT,
+    &CHECKPOINT_SIDES,  &READ_CHECKPOINT, &DIR_INDEX};
 
 int tests_for(const Operation *operation, uint32_t number) {
     for (const uint32_t *test = operation->tests; *test != 0; test++) {
@@ -117,8 +138,8 @@ uint64_t pattern(double number) {
     return bits;
 }
 
-/* A NaN with a payload that tells each word of each buffer from all others. */
-static uint64_t canary(int which, size_t place) { return UINT64_C(0x7ff4000000000000) | (uint64_t)which << 32 | place; }
+/* A NaN with a payload that tells each word of each buffer from all others; none of its bytes is 0. */
+static uint64_t canary(int which, size_t place) { return UINT64_C(0x7ff4a5a5a5a5a5a5) ^ ((uint64_t)which << 32 | place); }
 
 static void fill(double *into, int which, size_t count) {
     for (size_t k = 0; k < count; k++) {
@@ -128,7 +149,7 @@ static void fill(double *into, int which, size_t count) {
 }
 
 Call begin(uint64_t nx, uint64_t ny, const char *format, ...) {
-    const size_t a_cell[BUFFERS] = {9, 9, 2, 3};
+    const size_t a_cell[BUFFERS] = {9, 9, 2, 3, 72};
     va_list arguments;
     Call call;
     va_start(arguments, format);
@@ -143,6 +164,8 @@ Call begin(uint64_t nx, uint64_t ny, const char *format, ...) {
         fill(given[which], which, MOST);
         fill(wanted[which], which, MOST);
     }
+    call.length[CHECKPOINT] += 13;
+    call.file_at = 1;
     memset(wanted_answer, 0, sizeof wanted_answer);
     return call;
 }
@@ -187,7 +210,7 @@ static void lend(void) {
 }
 
 void check(const Operation *operation, const Call *call, uint32_t number) {
-    static const char *const names[BUFFERS] = {"f", "post", "u", "the table"};
+    static const char *const names[BUFFERS] = {"f", "post", "u", "the table", "the words about the file"};
     const Call before = *call;
     lend();
     const uint32_t seen = operation->make(call);

@@ -6,10 +6,10 @@
 
 #define COUNT(rows) (sizeof(rows) / sizeof *(rows))
 
-/* The lent buffers. */
-enum { F, POST, U, TABLE, BUFFERS };
+/* The lent buffers; the last is a checkpoint file's, of bytes. */
+enum { F, POST, U, TABLE, CHECKPOINT, BUFFERS };
 
-/* The most entries of a buffer, the most words of an answer, and the words before and behind either that no call may touch. */
+/* The most words of a buffer, the most of an answer, and the words before and behind either that no call may touch. */
 enum { MOST = 64, ANSWERS = 4, GUARD = 8 };
 
 /* All that a call can be given. */
@@ -20,20 +20,22 @@ typedef struct {
     double tolerance;
     uint64_t steps, check_every;
     int32_t ex, ey;
+    uint32_t step;
+    size_t file_at; /* the byte of its buffer at which a file begins */
 } Call;
 
 typedef struct {
     const char *name;
     uint32_t (*make)(const Call *call);
-    int lent[BUFFERS];     /* whether it is lent each buffer */
+    int lent[BUFFERS];     /* whether it is lent each buffer; a file that it reads has lengths of its own */
     size_t numbers, words; /* of its answer: f64, or 64-bit words */
     uint32_t tests[8];     /* the numbers that it tests, in the rules' order; then 0 */
 } Operation;
 
 extern const Operation INITIALIZE, DENSITY, VELOCITY, VELOCITY_FIELD, TOTAL_MASS, KINETIC_ENERGY, PLANE, STREAM_WITH_FACES,
-    LOSSLESS, REVERSE, STEP, RUN, RUN_TO_STEADY_STATE, DIR_INDEX;
+    LOSSLESS, REVERSE, STEP, RUN, RUN_TO_STEADY_STATE, WRITE_CHECKPOINT, CHECKPOINT_SIDES, READ_CHECKPOINT, DIR_INDEX;
 
-enum { OPERATIONS = 14 };
+enum { OPERATIONS = 17 };
 extern const Operation *const ALL[OPERATIONS];
 
 /* Whether an operation tests a number. */
@@ -47,7 +49,7 @@ extern uint64_t wanted_answer[ANSWERS];
 uint64_t pattern(double number);
 
 /* Begins a case, named as by printf: buffers of canaries, expected to stay; an answer of zeros; and a call on a grid of this
- * size with buffers of the right lengths, Bgk with tau 2, no force, periodic faces, and zeros. */
+ * size with buffers of the right lengths, Bgk with tau 2, no force, periodic faces, a file at an odd address, and zeros. */
 Call begin(uint64_t nx, uint64_t ny, const char *format, ...);
 
 /* Makes the call, and fails unless it answers this number and leaves what is wanted. */
@@ -61,5 +63,6 @@ void check_refusals(void);
 void check_readings(void);
 void check_streaming(void);
 void check_steps(void);
+void check_checkpoints(void);
 
 #endif

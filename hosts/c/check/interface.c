@@ -89,6 +89,13 @@ uint32_t brothwagon_run_to_steady_state(const brothwagon_settings *settings, dou
                                         uint64_t check_every, double *f, size_t f_length, double *post, size_t post_length,
                                         double *u, size_t u_length, uint64_t answer[3]);
 
+uint32_t brothwagon_write_checkpoint(const brothwagon_settings *settings, uint32_t step, const double *f, size_t f_length,
+                                     uint8_t *file, size_t file_length);
+
+uint32_t brothwagon_checkpoint_sides(const uint8_t *file, size_t file_length, uint64_t answer[3]);
+
+uint32_t brothwagon_read_checkpoint(const uint8_t *file, size_t file_length, double *f, size_t f_length, uint64_t answer[3]);
+
 uint32_t brothwagon_dir_index(int32_t ex, int32_t ey, uint64_t direction[1]);
 
 #ifdef __cplusplus

@@ -1,6 +1,6 @@
 /* Each function is refused with each number that it tests, by every fault of that number, and the first number that applies is
  * answered. */
-#include "call.h"
+#include "file.h"
 
 #include <math.h>
 
@@ -124,27 +124,97 @@ static int components(Call *call, size_t k) {
     return k < COUNT(rows);
 }
 
+/* ---- of the file, which has 445 bytes, the first four a count of 441 */
+
+static int no_version(Call *call, size_t k) {
+    if (k < 5) {
+        call->length[CHECKPOINT] = k;
+    }
+    return k < 5;
+}
+
+static int version(Call *call, size_t k) {
+    const uint64_t rows[] = {2, 0, 3, 129, 255};
+    if (k < COUNT(rows)) {
+        hold_bytes(call, 4, 1, rows[k]);
+    }
+    return k < COUNT(rows);
+}
+
+static int sides_cut_short(Call *call, size_t k) {
+    if (k < 4) {
+        call->length[CHECKPOINT] = 8 - k;
+    }
+    return k < 4;
+}
+
+/* The sides, the count and the length. */
+static void make_file(Call *call, const uint64_t row[4]) {
+    hold_bytes(call, 0, 4, row[2]);
+    hold_bytes(call, 5, 2, row[0]);
+    hold_bytes(call, 7, 2, row[1]);
+    call->length[CHECKPOINT] = row[3];
+}
+
+/* The length is wrong as well, but for that of no cells, which is 13. */
+static int sides_of_file(Call *call, size_t k) {
+    const uint64_t rows[][4] = {{0, 2, 441, 445},     {3, 0, 441, 445},      {0, 2, 9, 13},          {3, 0, 9, 13},
+                                {4097, 1, 441, 445},  {1, 4097, 441, 445},   {65535, 1, 441, 445},   {1, 65535, 441, 445},
+                                {4096, 257, 441, 9},  {257, 4096, 441, 445}, {1025, 1024, 441, 445}, {32768, 2, 9, 13},
+                                {32768, 16384, 9, 13}};
+    if (k < COUNT(rows)) {
+        make_file(call, rows[k]);
+    }
+    return k < COUNT(rows);
+}
+
+/* Sides that are allowed, with a count or a length that is not theirs. */
+static int count_or_length(Call *call, size_t k) {
+    const uint64_t rows[][4] = {{3, 2, 440, 445},   {3, 2, 442, 445}, {3, 2, 445, 445}, {3, 2, 432, 445}, {3, 2, 0, 445},
+                                {3, 2, 65977, 445}, {3, 2, 441, 444}, {3, 2, 441, 446}, {3, 2, 441, 453}, {3, 2, 441, 9},
+                                {3, 2, 441, 10},    {3, 2, 441, 12},  {3, 2, 441, 13},  {3, 2, 5, 9},     {3, 2, 8, 12},
+                                {3, 2, 9, 13},      {3, 2, 440, 444}, {3, 2, 433, 437}, {3, 2, 449, 453}, {3, 3, 441, 445},
+                                {2, 2, 441, 445},   {1, 1, 441, 445}, {1, 1, 81, 445},  {1, 1, 441, 85},  {256, 256, 9, 13},
+                                {4096, 256, 9, 13}};
+    if (k < COUNT(rows)) {
+        make_file(call, rows[k]);
+    }
+    return k < COUNT(rows);
+}
+
 typedef struct {
     uint32_t number;
     const char *of;
     int (*make)(Call *call, size_t k);
 } Fault;
 
-/* In the order in which the numbers are tested. */
+/* In the order in which the numbers are tested; and in that of a file that is read. */
 static const Fault FAULTS[] = {{1, "the sides", sides},         {2, "the lengths", lengths},
                                {3, "the rates", rates},         {4, "the force", force},
                                {5, "the faces", face_numbers},  {10, "the steps", steps},
                                {6, "the place", places},        {7, "driven faces", driven_faces},
                                {8, "lossy faces", lossy_faces}, {11, "the components", components}};
 
+static const Fault FILE_FAULTS[] = {{12, "a file's first bytes", no_version},        {13, "its version", version},
+                                    {14, "the bytes of its sides", sides_cut_short}, {1, "its sides", sides_of_file},
+                                    {15, "its count or length", count_or_length},    {2, "the lengths", lengths}};
+
 static int is_fault(const Operation *operation, const Fault *fault, size_t k) {
     return tests_for(operation, fault->number) && (fault->number != 2 || operation->lent[k % BUFFERS]);
+}
+
+/* The file that a call reads, if it reads one. */
+static void lend_file(const Operation *operation, const Call *call) {
+    if (tests_for(operation, 12)) {
+        hold_file(call);
+    }
 }
 
 /* Every fault of one number by itself. */
 static void refused_with(const Operation *operation, const Fault *fault) {
     for (size_t k = 0;; k++) {
         Call call = begin(3, 2, "fault %u of %s", (unsigned)k, fault->of);
+        lend_file(operation, &call);
         if (!fault->make(&call, k)) {
             return;
         }
@@ -155,15 +225,23 @@ static void refused_with(const Operation *operation, const Fault *fault) {
 }
 
 /* Faults of a number and of all that are tested after it. */
-static void refused_first(const Operation *operation, size_t first) {
-    Call call = begin(3, 2, "faults of %s and of all that is tested later", FAULTS[first].of);
-    for (size_t at = COUNT(FAULTS); at-- > first;) {
-        if (tests_for(operation, FAULTS[at].number)) {
-            FAULTS[at].make(&call, 0);
+static void refused_first(const Operation *operation, const Fault *first, const Fault *end) {
+    Call call = begin(3, 2, "faults of %s and of all that is tested later", first->of);
+    lend_file(operation, &call);
+    for (const Fault *fault = end; fault-- > first;) {
+        if (tests_for(operation, fault->number)) {
+            fault->make(&call, 0);
         }
     }
-    if (tests_for(operation, FAULTS[first].number)) {
-        check(operation, &call, FAULTS[first].number);
+    if (tests_for(operation, first->number)) {
+        check(operation, &call, first->number);
+    }
+}
+
+static void refused(const Operation *operation, const Fault *faults, const Fault *end) {
+    for (const Fault *fault = faults; fault < end; fault++) {
+        refused_with(operation, fault);
+        refused_first(operation, fault, end);
     }
 }
 
@@ -183,9 +261,10 @@ static void allowed_sides(void) {
 
 void check_refusals(void) {
     for (size_t at = 0; at < OPERATIONS; at++) {
-        for (size_t fault = 0; fault < COUNT(FAULTS); fault++) {
-            refused_with(ALL[at], &FAULTS[fault]);
-            refused_first(ALL[at], fault);
+        if (tests_for(ALL[at], 12)) {
+            refused(ALL[at], FILE_FAULTS, FILE_FAULTS + COUNT(FILE_FAULTS));
+        } else {
+            refused(ALL[at], FAULTS, FAULTS + COUNT(FAULTS));
         }
     }
     refused_tolerance();

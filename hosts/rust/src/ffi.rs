@@ -71,6 +71,16 @@ mod c {
             us: usize,
             answer: *mut u64,
         ) -> u32;
+        pub fn brothwagon_write_checkpoint(
+            s: *const Settings,
+            step: u32,
+            f: *const f64,
+            fs: usize,
+            file: *mut u8,
+            files: usize,
+        ) -> u32;
+        pub fn brothwagon_checkpoint_sides(file: *const u8, files: usize, answer: *mut u64) -> u32;
+        pub fn brothwagon_read_checkpoint(file: *const u8, files: usize, f: *mut f64, fs: usize, answer: *mut u64) -> u32;
         pub fn brothwagon_dir_index(ex: i32, ey: i32, direction: *mut u64) -> u32;
     }
 }
@@ -177,6 +187,26 @@ pub fn run_to_steady_state(
             answer.as_mut_ptr(),
         )
     };
+    (number, answer)
+}
+
+/// Writes the checkpoint file of `f`, with that step number, into `file`.
+pub fn write_checkpoint(s: &Settings, step: u32, f: &[f64], file: &mut [u8]) -> u32 {
+    unsafe { c::brothwagon_write_checkpoint(s, step, f.as_ptr(), f.len(), file.as_mut_ptr(), file.len()) }
+}
+
+/// The number, and a checkpoint file's nx, ny and step number.
+pub fn checkpoint_sides(file: &[u8]) -> (u32, [u64; 3]) {
+    let mut answer = [UNWRITTEN; 3];
+    let number = unsafe { c::brothwagon_checkpoint_sides(file.as_ptr(), file.len(), answer.as_mut_ptr()) };
+    (number, answer)
+}
+
+/// Reads a checkpoint file into `f`: the number, and the file's nx, ny and step number.
+pub fn read_checkpoint(file: &[u8], f: &mut [f64]) -> (u32, [u64; 3]) {
+    let mut answer = [UNWRITTEN; 3];
+    let number =
+        unsafe { c::brothwagon_read_checkpoint(file.as_ptr(), file.len(), f.as_mut_ptr(), f.len(), answer.as_mut_ptr()) };
     (number, answer)
 }
 

@@ -2,7 +2,8 @@
 //!
 //! The arithmetic is the proved library's; this crate lends it buffers and turns its numbers into a [`Refusal`]. Every
 //! operation ends on every input, and a refused one leaves every buffer as it was, but for a steady run that meets a bad
-//! snapshot (number 9). The floating-point mode is the caller's, and must be the usual one: include/brothwagon.h says which.
+//! snapshot (number 9). A state is stored and passed on as a [`Checkpoint`]. The floating-point mode is the caller's, and must
+//! be the usual one: include/brothwagon.h says which.
 //!
 //! A cavity whose lid moves to the right:
 //!
@@ -37,6 +38,7 @@
 
 #![deny(missing_docs, unsafe_code)]
 
+mod checkpoint;
 #[allow(unsafe_code)]
 pub mod ffi;
 mod file;
@@ -47,6 +49,7 @@ mod refusal;
 mod settings;
 mod study;
 
+pub use checkpoint::Checkpoint;
 pub use file::{Start, StudyFile, Wrong};
 pub use fingerprint::fingerprint;
 pub use level::level;

@@ -29,12 +29,20 @@ pub enum Refusal {
     Run,
     /// 11: two components that are no direction's.
     NoDirection,
+    /// 12: a file has fewer than five bytes, so no version.
+    FileShort,
+    /// 13: a file's version is not 1.
+    FileVersion,
+    /// 14: a file is cut short before the end of its sides.
+    FileSides,
+    /// 15: a file's count, or its actual length, is wrong.
+    FileLength,
     /// A number that this crate does not know, of a library that it was not written for.
     Unknown(u32),
 }
 
 /// Every refusal with a meaning, in the order of the numbers.
-const ALL: [Refusal; 11] = [
+const ALL: [Refusal; 15] = [
     Refusal::Sides,
     Refusal::Length,
     Refusal::Rate,
@@ -46,6 +54,10 @@ const ALL: [Refusal; 11] = [
     Refusal::BadSnapshot { steps: 0 },
     Refusal::Run,
     Refusal::NoDirection,
+    Refusal::FileShort,
+    Refusal::FileVersion,
+    Refusal::FileSides,
+    Refusal::FileLength,
 ];
 
 impl Refusal {
@@ -80,6 +92,10 @@ impl Refusal {
             Refusal::BadSnapshot { .. } => (9, "a snapshot has a velocity component that is not finite"),
             Refusal::Run => (10, "the tolerance is NaN, or there are more than 1,000,000 steps"),
             Refusal::NoDirection => (11, "the two components are those of no direction"),
+            Refusal::FileShort => (12, "the file has fewer than five bytes, so no version"),
+            Refusal::FileVersion => (13, "the file's version is not 1"),
+            Refusal::FileSides => (14, "the file is cut short before the end of its sides"),
+            Refusal::FileLength => (15, "the file's count, or its actual length, is wrong"),
             Refusal::Unknown(number) => {
                 (number, "a number that this crate does not know; the library is not the one it was written for")
             }
@@ -111,7 +127,7 @@ mod tests {
             assert_eq!(Refusal::of(number), Err(refusal));
         }
         assert_eq!(Refusal::of(0), Ok(()));
-        assert_eq!(Refusal::of(12), Err(Refusal::Unknown(12)));
+        assert_eq!(Refusal::of(16), Err(Refusal::Unknown(16)));
         assert_eq!(Refusal::of(u32::MAX).unwrap_err().number(), u32::MAX);
     }
 }

@@ -1,4 +1,4 @@
-use crate::{Refusal, Settings, ffi};
+use crate::{Checkpoint, Refusal, Settings, checkpoint, ffi};
 use std::error::Error;
 use std::fmt;
 
@@ -41,19 +41,19 @@ pub struct Steady {
     pub residual: f64,
 }
 
-/// Settings for a study have other sides than its buffers.
+/// Settings or a checkpoint for a study have other sides than its buffers.
 #[derive(Clone, Copy, Debug, PartialEq, Eq)]
 pub struct OtherSides {
     /// The study's own, nx and ny.
     pub has: (usize, usize),
-    /// Those of the settings.
+    /// Those of the settings or of the checkpoint.
     pub given: (usize, usize),
 }
 
 impl fmt::Display for OtherSides {
     fn fmt(&self, out: &mut fmt::Formatter) -> fmt::Result {
         let OtherSides { has, given } = self;
-        write!(out, "the study is {} by {} and stays so; the settings are for {} by {}", has.0, has.1, given.0, given.1)
+        write!(out, "the study is {} by {} and stays so; what it is given is {} by {}", has.0, has.1, given.0, given.1)
     }
 }
 
@@ -83,12 +83,26 @@ impl Study {
 
     /// Takes other settings from here on, with the same sides: the buffers are for those.
     pub fn change(&mut self, settings: Settings) -> Result<(), OtherSides> {
-        let (has, given) = ((self.settings.nx, self.settings.ny), (settings.nx, settings.ny));
-        if given != has {
-            return Err(OtherSides { has, given });
-        }
+        self.fits((settings.nx, settings.ny))?;
         self.settings = settings;
         Ok(())
+    }
+
+    /// Takes the populations of a checkpoint, with the same sides; the other buffers stay as they are.
+    pub fn load(&mut self, checkpoint: Checkpoint) -> Result<(), OtherSides> {
+        self.fits(checkpoint.sides())?;
+        self.f = checkpoint.into_f();
+        Ok(())
+    }
+
+    fn fits(&self, given: (usize, usize)) -> Result<(), OtherSides> {
+        let has = (self.settings.nx, self.settings.ny);
+        if given == has { Ok(()) } else { Err(OtherSides { has, given }) }
+    }
+
+    /// The checkpoint file of the populations, with this step number: the study itself counts no steps.
+    pub fn checkpoint_file(&self, step: u32) -> Result<Vec<u8>, Refusal> {
+        checkpoint::file_of(&self.words(), step, &self.f)
     }
 
     /// The populations.

@@ -1,44 +1,10 @@
 //! The command, from outside: what it prints and how it ends.
 
-use std::fs;
+mod asked;
+
+use asked::{failed, out, study, value};
 use std::io;
-use std::process::{Command, Output};
-
-/// A path, with STUDIES for the folder of the studies and MADE for that of the files which a test makes.
-fn path(word: &str) -> String {
-    let studies = concat!(env!("CARGO_MANIFEST_DIR"), "/../../studies/");
-    word.replace("STUDIES/", studies).replace("MADE/", concat!(env!("CARGO_TARGET_TMPDIR"), "/"))
-}
-
-/// Makes a study file for a test.
-fn study(name: &str, text: &str) -> String {
-    let made = format!("MADE/{name}.study");
-    fs::write(path(&made), text).unwrap();
-    made
-}
-
-/// The command's end on these words.
-fn brothwagon(words: &str) -> Output {
-    Command::new(env!("CARGO_BIN_EXE_brothwagon")).args(words.split(' ').map(path)).output().unwrap()
-}
-
-fn out(words: &str) -> String {
-    let end = brothwagon(words);
-    assert!(end.status.success(), "{}", String::from_utf8_lossy(&end.stderr));
-    String::from_utf8(end.stdout).unwrap()
-}
-
-/// The exit status and what was said about it.
-fn failed(words: &str) -> (Option<i32>, String) {
-    let end = brothwagon(words);
-    assert!(end.stdout.is_empty());
-    (end.status.code(), String::from_utf8(end.stderr).unwrap())
-}
-
-/// The value of a line of an answer.
-fn value<'a>(said: &'a str, name: &str) -> &'a str {
-    said.lines().find_map(|line| line.trim_start().strip_prefix(name)).unwrap().trim_start()
-}
+use std::process::Command;
 
 // `compare/run --studies` prints these fingerprints, from the solver's source.
 #[test]
@@ -102,6 +68,8 @@ fn a_wrong_file_or_command_is_told_apart_from_a_refusal() {
     assert_eq!(failed("walk").0, Some(2));
     assert_eq!(failed("run").0, Some(2));
     assert_eq!(failed("run STUDIES/cavity.study --steps many").0, Some(2));
+    assert_eq!(failed("run STUDIES/cavity.study --every 5").0, Some(2));
+    assert_eq!(failed("show").0, Some(2));
 }
 
 #[test]
@@ -117,4 +85,5 @@ fn a_reader_that_has_seen_enough_ends_it_quietly() {
 fn help_says_what_the_fingerprint_and_the_statuses_are() {
     let help = out("--help");
     assert!(help.contains("FNV-1a") && help.contains("1 refused, 2 "));
+    assert_eq!(out("run --help"), help);
 }

@@ -143,7 +143,7 @@ fn settings_may_change_and_sides_may_not() {
     let mut study = Study::new(Settings::new(3, 2, 0.1)).unwrap();
     let other = study.change(Settings::new(2, 3, 0.1)).unwrap_err();
     assert_eq!(other, OtherSides { has: (3, 2), given: (2, 3) });
-    assert_eq!(other.to_string(), "the study is 3 by 2 and stays so; the settings are for 2 by 3");
+    assert_eq!(other.to_string(), "the study is 3 by 2 and stays so; what it is given is 2 by 3");
     assert_eq!(study.change(Settings { fx: f64::NAN, ..*study.settings() }), Ok(()));
     assert_eq!(study.step(), Err(Refusal::Force));
 }

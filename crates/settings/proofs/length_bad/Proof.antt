@@ -1,6 +1,6 @@
 -- `settings::length_bad` meets its contract: a length divides by `per` and nx to give ny, with nothing left, exactly where it is per·nx·ny.
-use mathlib.Core.Path.{_≡_, refl, sym, ap}
-use mathlib.Core.Bool.{Bool, true, false, not, _||_}
+use mathlib.Core.Path.{_≡_, refl, ap}
+use mathlib.Core.Bool.{Bool, false, not, _||_}
 use Prim.Native.Nat.{ℕ, _*_, _/_, _%_, _≤_}
 use native.Mathlib.Nat.{div-add-mod, mul-div-cancel-left, mul-mod-right, zero-mul, mul-zero}
 use native.Mathlib.Omega.{arith}
@@ -8,15 +8,9 @@ use lib.Dec.{eqb}
 use borrow.Author.Needs.{needs}
 use borrow.Author.Tests.{eqb-true, eq-eqb, not-false}
 use Rattle.settings.specs.Tests.{lengthBad}
-use Rattle.settings.proofs.Laws.{or-left, or-right}
+use Rattle.settings.proofs.Laws.{or-left, or-right, same-test}
 use Rattle.settings.proofs.length_bad.Statement.{statement}
 use Rattle.settings.proofs.length_bad.Tie as tie
-
--- two tests that fail together are one
-same-test : (a b : Bool) → (a ≡ false → b ≡ false) → (b ≡ false → a ≡ false) → a ≡ b
-same-test false b f g = sym (f refl)
-same-test true false f g = g refl
-same-test true true f g = refl
 
 -- n is m·q where it divides by m to give q, with nothing left
 whole : (n m q : ℕ) → not (eqb (n % m) 0) ≡ false → n / m ≡ q → n ≡ m * q

@@ -1,0 +1,10 @@
+// The bytes of small checkpoint files; and what is refused, with which number, on lent buffers full of canaries.
+mod given;
+mod lines;
+mod refused;
+mod written;
+
+fn main() {
+    written::all();
+    refused::all();
+}

@@ -1,0 +1,34 @@
+-- `settings::file` meets its contract: each test's number stands before the later ones, in the order of a file's tests.
+use borrow.Author.Needs.{needs}
+use Rattle.settings.proofs.file.Statement.{statement}
+use Rattle.settings.proofs.file.Tie as tie
+
+returns : tie.Need-returns
+returns c =
+    let version = c .before .before in
+    let cut = version .before .before in
+    let sides = cut .before .before in
+    let count = sides .before in
+    let tests = count .before in
+    rw (
+      c .number-if5 .ensures,
+      version .number-if4 .ensures,
+      cut .number-if3 .ensures,
+      sides .number-if2 .ensures,
+      count .number-if .ensures,
+      tests .sides-bad .ensures,
+      tests .before .count-bad .ensures,
+    )
+
+pub file-spec : {M : Type 1} → statement M
+file-spec =
+    tie.close
+    (tie.spec
+    (λ c κs. search needs)
+    (λ c κs. search needs)
+    (λ c κs. search needs)
+    (λ c κs. search needs)
+    (λ c κs. search needs)
+    (λ c κs. search needs)
+    (λ c κs. search needs)
+    returns)

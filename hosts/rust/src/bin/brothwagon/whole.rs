@@ -1,0 +1,86 @@
+//! Files that are written whole or not at all.
+
+use std::fs::{self, File};
+use std::io::{self, ErrorKind, Write};
+use std::path::{MAIN_SEPARATOR, Path, PathBuf};
+use std::process;
+
+/// Puts these bytes under a name, in place of the file that was there. If that fails, or the process is killed, the name still
+/// has what it had.
+pub fn write(path: &Path, bytes: &[u8]) -> io::Result<()> {
+    let target = resolved(path)?;
+    let mut draft = Draft::in_folder(folder(&target))?;
+    draft.file.write_all(bytes)?;
+    draft.file.sync_all()?;
+    draft.rename(&target)
+}
+
+/// Whether a file can be put under that name: makes a draft there, and removes it.
+pub fn test(path: &Path) -> io::Result<()> {
+    Draft::in_folder(folder(&resolved(path)?)).map(drop)
+}
+
+/// Whether files can be put into that folder.
+pub fn test_folder(path: &Path) -> io::Result<()> {
+    Draft::in_folder(path).map(drop)
+}
+
+/// The file to be replaced: where a link leads. A folder or a device must not be, nor what someone made read-only.
+fn resolved(path: &Path) -> io::Result<PathBuf> {
+    match fs::metadata(path) {
+        Ok(there) if there.is_dir() => Err(ErrorKind::IsADirectory.into()),
+        Ok(there) if !there.is_file() => Err(io::Error::other("it is no plain file")),
+        Ok(there) if there.permissions().readonly() => Err(io::Error::other("it is read-only")),
+        Ok(_) => fs::canonicalize(path),
+        Err(why) if why.kind() != ErrorKind::NotFound => Err(why),
+        Err(_) if path.to_string_lossy().ends_with(MAIN_SEPARATOR) => Err(ErrorKind::IsADirectory.into()),
+        Err(_) => Ok(path.to_path_buf()),
+    }
+}
+
+fn folder(path: &Path) -> &Path {
+    match path.parent() {
+        Some(folder) if !folder.as_os_str().is_empty() => folder,
+        _ => Path::new("."),
+    }
+}
+
+/// A new file with a name of its own, which is removed unless it gets another.
+struct Draft {
+    file: File,
+    path: PathBuf,
+    folder: File,
+    renamed: bool,
+}
+
+impl Draft {
+    fn in_folder(name: &Path) -> io::Result<Draft> {
+        let folder = File::open(name)?;
+        let mut number = 0;
+        loop {
+            let path = name.join(format!("brothwagon-{}-{number}.unfinished", process::id()));
+            match File::create_new(&path) {
+                Ok(file) => return Ok(Draft { file, path, folder, renamed: false }),
+                // That of a killed process which had the same id.
+                Err(why) if why.kind() == ErrorKind::AlreadyExists => number += 1,
+                Err(why) => return Err(why),
+            }
+        }
+    }
+
+    fn rename(mut self, target: &Path) -> io::Result<()> {
+        fs::rename(&self.path, target)?;
+        self.renamed = true;
+        // The new name is on the disk once the folder is.
+        self.folder.sync_all()
+    }
+}
+
+impl Drop for Draft {
+    fn drop(&mut self) {
+        if !self.renamed {
+            // Why the file was not written is said; a draft that cannot be removed is the lesser trouble.
+            let _ = fs::remove_file(&self.path);
+        }
+    }
+}
