@@ -2,6 +2,7 @@
 
 mod answer;
 mod failure;
+mod judged;
 mod options;
 mod progress;
 mod read;
