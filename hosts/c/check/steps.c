@@ -122,20 +122,18 @@ static void steady_bad_at_first(const char *name, const double f[DIRECTIONS]) {
     check(&RUN_TO_STEADY_STATE, &call, 9);
 }
 
-/* Two cells at rest. After a step directions 1 and 3 of the first are at the second, whose density then overflows; its velocity is
- * still (0, 0). */
+/* Two cells. After a step directions 1 and 3 of the first are at the second, whose density then overflows; every velocity is finite.
+ * The first snapshot is kept. */
 static void steady_bad_later(double sign) {
     Call call = begin(2, 1, "a later snapshot with a density of %g", sign * INFINITY);
     for (size_t k = 0; k < 2 * DIRECTIONS; k++) {
-        given[F][k] = wanted[F][k] = sign * (k == 2 || k == 6 ? 4.5e307 : k == 1 ? 1.35e308 : 0.0);
+        given[F][k] = wanted[F][k] = sign * (k == 2 ? 4.5e307 : k == 6 ? 4.4e307 : k == 1 ? 1.35e308 : 0.0);
     }
     call.settings.nu = 100.0;
     call.tolerance = 1.0;
     call.steps = 5;
+    velocities_of(&call.settings, given[F], wanted[U]);
     step(&call.settings, wanted[F], wanted[POST]);
-    for (size_t k = 0; k < 4; k++) {
-        wanted[U][k] = 0.0;
-    }
     wanted_answer[1] = 1;
     check(&RUN_TO_STEADY_STATE, &call, 9);
 }
