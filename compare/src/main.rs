@@ -172,9 +172,13 @@ fn report(plan: &Plan, tally: &Tally, comparison: &Comparison) {
 
 /// A long comparison that never met some number, or number 9 for a density alone, would say little.
 fn reached_all(tally: &Tally, comparison: &Comparison) -> ExitCode {
-    let missed: Vec<usize> = (0..12).filter(|&number| tally.by_number[number] == 0).collect();
-    if tally.cases >= 10_000 && (!missed.is_empty() || comparison.listed.densities == 0) {
-        println!("compare: no case was answered with {missed:?}, or with 9 for a density alone");
+    let numbers = (0..12).filter(|&number| tally.by_number[number] == 0).map(|number| number.to_string());
+    let mut missed: Vec<String> = numbers.collect();
+    if comparison.listed.densities == 0 {
+        missed.push("9 for a density alone".to_string());
+    }
+    if tally.cases >= 10_000 && !missed.is_empty() {
+        println!("compare: no case was answered with {}", missed.join(", "));
         return ExitCode::FAILURE;
     }
     ExitCode::SUCCESS

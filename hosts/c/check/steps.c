@@ -122,8 +122,8 @@ static void steady_bad_at_first(const char *name, const double f[DIRECTIONS]) {
     check(&RUN_TO_STEADY_STATE, &call, 9);
 }
 
-/* Two cells. After a step directions 1 and 3 of the first are at the second, whose density then overflows; every velocity is finite.
- * The first snapshot is kept. */
+/* Two cells. After a step directions 1 and 3 of the first are at the second, whose density then overflows; every velocity is
+ * finite. The first snapshot is kept. */
 static void steady_bad_later(double sign) {
     Call call = begin(2, 1, "a later snapshot with a density of %g", sign * INFINITY);
     for (size_t k = 0; k < 2 * DIRECTIONS; k++) {
