@@ -184,8 +184,8 @@ impl Study {
         &self.u
     }
 
-    /// The first cell, by `x + y * nx`, whose density or a velocity component is not finite, if there is one: where it is in a
-    /// snapshot, a steady run is refused with 9.
+    /// The first cell, in the order of `x + y * nx`, whose density or a velocity component is not finite. A steady run that
+    /// meets one in a snapshot is refused with 9.
     pub fn first_bad_cell(&self) -> Result<Option<BadCell>, Refusal> {
         let Settings { nx, ny, .. } = self.settings;
         for cell in 0..nx * ny {
