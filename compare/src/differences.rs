@@ -97,15 +97,23 @@ fn sums() -> Vec<Row> {
     ]
 }
 
+/// A steady run that the Rust calls settled: its steps and residual, with what it leaves of the last cell; and the port's number.
+fn ruined(asked: &'static str, s: Settings, f: &[f64], rust: &'static str, port: &'static str) -> Row {
+    let left = answers(|| {
+        let mut solver = on(&s, f);
+        let (steps, residual) = solver.run_to_steady_state(1e-9, 5, 1);
+        let last = s.nx as usize - 1;
+        (steps, residual, solver.density(last, 0), solver.velocity(last, 0))
+    });
+    let (mut f, mut post, mut u) = (f.to_vec(), vec![0.0; f.len()], vec![0.0; f.len() / 9 * 2]);
+    let (refused, [_, steps, _]) = ffi::run_to_steady_state(&s, 1e-9, 5, 1, &mut f, &mut post, &mut u);
+    row(asked, (rust, left), (port, format!("number {refused}, steps {steps}")))
+}
+
 fn steady_runs() -> Vec<Row> {
-    let over = |asked, settings: Settings, f: &[f64], port| {
-        let rust = answers(|| on(&settings, f).run_to_steady_state(1e-9, 5, 1));
-        let (mut now, mut post, mut u) = (f.to_vec(), vec![0.0; f.len()], vec![0.0; f.len() / 9 * 2]);
-        let (refused, [_, steps, _]) = ffi::run_to_steady_state(&settings, 1e-9, 5, 1, &mut now, &mut post, &mut u);
-        row(asked, ("(1, 0.0)", rust), (port, format!("number {refused}, steps {steps}")))
-    };
     let (one, two) = (settings(1, 1), Settings { nu: 100.0, ..settings(2, 1) });
     let (huge, at_once, later) = (2f64.powi(1023), "number 9, steps 0", "number 9, steps 1");
+    let all_nan = "(1, 0.0, NaN, [NaN, NaN])";
     // After a step directions 1 and 3 of the first cell are at the second, which is at rest.
     let meeting = |sign: f64| {
         let mut f = [0.0; 18];
@@ -113,21 +121,23 @@ fn steady_runs() -> Vec<Row> {
         f
     };
     vec![
-        over("steady run, 1 by 1, population 0 NaN", one, &only(NAN), at_once),
-        over("steady run, 1 by 1, population 0 minus infinity", one, &only(MINUS_INFINITY), at_once),
-        over(
+        ruined("steady run, 1 by 1, population 0 NaN", one, &only(NAN), all_nan, at_once),
+        ruined("steady run, 1 by 1, population 0 minus infinity", one, &only(MINUS_INFINITY), all_nan, at_once),
+        ruined(
             "steady run, 1 by 1, populations 1 and 3 are 2^1023: density infinity, velocity (0, 0)",
             one,
             &[0.0, huge, 0.0, huge, 0.0, 0.0, 0.0, 0.0, 0.0],
+            "(1, 0.0, inf, [NaN, NaN])",
             at_once,
         ),
-        over(
+        ruined(
             "steady run, 2 by 1, viscosity 100, -2^1022 in directions 1 and 3 of the first cell, -1.5*2^1023 in 0 of the second",
             two,
             &meeting(-1.0),
+            "(1, 0.0, -inf, [0.0, 0.0])",
             later,
         ),
-        over("the same with 2^1022 and 1.5*2^1023", two, &meeting(1.0), later),
+        ruined("the same with 2^1022 and 1.5*2^1023", two, &meeting(1.0), "(1, 0.0, inf, [0.0, 0.0])", later),
     ]
 }
 

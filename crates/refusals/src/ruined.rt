@@ -11,6 +11,8 @@ const MINUS_INFINITY: u64 = 0xfff0_0000_0000_0000;
 // Twice this number is no f64.
 const HUGE: u64 = 0x7fe0_0000_0000_0000;
 
+const A_THIRD: u64 = 0x3fd5_5555_5555_5555;
+
 fn steps_taken(a: Steady) -> u64 {
     match a {
         Steady::Refused(_) => 0,
@@ -36,14 +38,14 @@ fn at_once(case: &[u8], f: [u64; 9]) {
     show::newline();
 }
 
-// Two cells at rest. After a step directions 1 and 3 of the first are at the second, whose density then overflows; its velocity
-// still reads (0, 0).
-fn later(case: &[u8], moving: u64, resting: u64) {
+// Two cells, the second at rest. After a step directions 1 and 3 of the first are there, and its density overflows, while every
+// velocity is finite. In the first snapshot the first cell has (ux, 0).
+fn later(case: &[u8], right: u64, left: u64, resting: u64, ux: u64) {
     let mut s = sized(2, 1);
     s.nu = 100.0;
     let mut f = [0; 18];
-    f[2] = moving;
-    f[6] = moving;
+    f[2] = right;
+    f[6] = left;
     f[1] = resting;
     let mut g = f;
     let mut post = [CANARY; 18];
@@ -53,7 +55,7 @@ fn later(case: &[u8], moving: u64, resting: u64) {
     runs::step(s, &mut g, &mut collided);
     gives(case, a);
     show::holds(same(&f, &g) & same(&post, &collided), b", stepped once");
-    show::holds(same(&u, &[0; 4]), b", first snapshot kept");
+    show::holds(same(&u, &[ux, 0, 0, 0]), b", first snapshot kept");
     show::newline();
 }
 
@@ -67,11 +69,15 @@ pub fn all() {
     later(
         b"density overflows to minus infinity after a step",
         0xffd0_0000_0000_0000,
+        0xffd0_0000_0000_0000,
         0xffe8_0000_0000_0000,
+        0,
     );
     later(
         b"density overflows after a step",
         0x7fd0_0000_0000_0000,
+        0x7fc0_0000_0000_0000,
         0x7fe8_0000_0000_0000,
+        A_THIRD,
     );
 }

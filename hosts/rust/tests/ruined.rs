@@ -4,9 +4,9 @@ mod asked;
 mod document;
 
 use asked::{failed, out, path, ruined, study, value};
-use std::fs;
+use std::fs::{self, File};
 use std::io;
-use std::process::Command;
+use std::process::{Command, Stdio};
 
 /// Makes a checkpoint with that step number, of populations that are 0.0 but for these places in the buffer.
 fn checkpoint(name: &str, (nx, ny): (u16, u16), step: u32, held: &[(usize, f64)]) -> String {
@@ -105,13 +105,22 @@ fn a_flow_that_blows_up_is_ruined() {
     assert!(wrong.contains(&format!("blown-up.study: the state at step 2000 {WHY} x 0, y 0, with density NaN")), "{wrong}");
 }
 
+/// The end of a run that leaves a ruined state, with its answer going there.
+fn answering(name: &str, to: impl Into<Stdio>) -> (Option<i32>, String) {
+    let (two, from) = (path(&study(name, TWO)), path(&meeting(name, -1.0)));
+    let words = ["run", &two, "--from", &from];
+    let end = Command::new(env!("CARGO_BIN_EXE_brothwagon")).args(words).stdout(to).output().unwrap();
+    (end.status.code(), String::from_utf8(end.stderr).unwrap())
+}
+
 #[test]
-fn a_ruined_state_is_told_where_nobody_reads_the_answer() {
-    let (two, from) = (path(&study("unread", TWO)), path(&meeting("unread", -1.0)));
+fn a_ruined_state_is_told_whatever_becomes_of_the_answer() {
     let (reader, writer) = io::pipe().unwrap();
     drop(reader);
-    let words = ["run", &two, "--from", &from];
-    let end = Command::new(env!("CARGO_BIN_EXE_brothwagon")).args(words).stdout(writer).output().unwrap();
-    assert_eq!(end.status.code(), Some(4));
-    assert!(String::from_utf8_lossy(&end.stderr).contains(WHY));
+    let (status, unread) = answering("unread", writer);
+    assert_eq!(status, Some(4));
+    assert!(unread.contains(WHY) && !unread.contains("cannot be written"), "{unread}");
+    let (status, unwritten) = answering("unwritten", File::create("/dev/full").unwrap());
+    assert_eq!(status, Some(4));
+    assert!(unwritten.contains(WHY) && unwritten.contains("; the answer cannot be written: "), "{unwritten}");
 }

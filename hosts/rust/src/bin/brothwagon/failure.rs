@@ -2,7 +2,7 @@
 
 use brothwagon::{BadCell, Refusal};
 use std::fmt;
-use std::io;
+use std::io::{self, ErrorKind};
 use std::path::Path;
 
 pub enum Failure {
@@ -24,6 +24,11 @@ impl Failure {
 
     pub fn ruined(why: impl fmt::Display, first: BadCell) -> Failure {
         Failure::Ruined(format!("{why}; the first such cell is {first}"))
+    }
+
+    /// A reader that has seen enough is no fault.
+    pub fn unread(&self) -> bool {
+        matches!(self, Failure::Unwritten(why) if why.kind() == ErrorKind::BrokenPipe)
     }
 
     /// A refusal and a ruined state are said with the path of the file that they are about.
