@@ -11,7 +11,7 @@
  *    6  x, y or direction outside
  *    7  the lossless question or the reverse meets MovingWall, Velocity or Pressure
  *    8  the reverse on faces that are not lossless
- *    9  steady run: a snapshot has a velocity component that is not finite
+ *    9  steady run: a snapshot has a density or a velocity component that is not finite
  *   10  the tolerance is NaN, or there are more than 1,000,000 steps
  *   11  the direction lookup is given two components that are no row of E
  *   12  a file has fewer than five bytes, so no version
@@ -145,8 +145,9 @@ uint32_t brothwagon_run(const brothwagon_settings *settings, uint64_t steps, dou
  * answer is {1, steps, residual} once a residual is below the tolerance, else {0, max_steps, last residual}, the residual as
  * its 64-bit pattern, and infinite if no check took place; u holds the last snapshot.
  * Numbers 1, 2, 3, 4, 5, 10; then f, post and u are as they were and answer is {0, 0, 0}.
- * Number 9 where a snapshot is not finite: answer is {0, steps taken, 0}; f and post are as after that step, and u keeps the
- * last good snapshot, or is as it was if the first is bad. */
+ * Number 9 where a snapshot is bad, that is, a cell has a density or a velocity component that is not finite: answer is
+ * {0, steps taken, 0}; f and post are as after that step, and u keeps the last good snapshot, or is as it was if the first is
+ * bad. */
 uint32_t brothwagon_run_to_steady_state(const brothwagon_settings *settings, double tolerance, uint64_t max_steps,
                                         uint64_t check_every, double *f, size_t f_length, double *post, size_t post_length,
                                         double *u, size_t u_length, uint64_t answer[3]);

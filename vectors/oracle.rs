@@ -265,8 +265,15 @@ fn runs(made: &mut Made) {
     }
 }
 
+/// Whether a cell has a density or a velocity component that is not finite.
+fn bad(lbm: &LatticeBoltzmann2D) -> bool {
+    let densities = (0..lbm.nx * lbm.ny).map(|c| lbm.density(c % lbm.nx, c / lbm.nx));
+    densities.chain(field(lbm)).any(|x| !x.is_finite())
+}
+
 /// A steady run: number, settled, steps, residual; then the populations, the post-collision and the velocity buffer.
-/// The Rust's answer, unless one of its snapshots is not finite: its `max` drops NaN, so its steps are taken again to look.
+/// The Rust's answer, unless one of its snapshots is bad: its `max` drops NaN, and it looks at no density, so its steps are taken
+/// again to look.
 fn steady(study: &Study, u: &[f64], tolerance: f64, most: usize, every: usize) {
     let mut lbm = study.solver();
     let (steps, residual) = lbm.run_to_steady_state(tolerance, most, every);
@@ -277,11 +284,10 @@ fn steady(study: &Study, u: &[f64], tolerance: f64, most: usize, every: usize) {
             again.step();
         }
         if k % every.max(1) == 0 {
-            let now = field(&again);
-            if !now.iter().all(|x| x.is_finite()) {
+            if bad(&again) {
                 return line(&[9, 0, k as u64, 0, after(k, &again.f), after(k, again.post()), mixed(&last)]);
             }
-            last = bits(&now);
+            last = bits(&field(&again));
         }
     }
     let settled = (residual < tolerance) as u64;
@@ -303,21 +309,38 @@ fn steadies(made: &mut Made) {
     }
 }
 
-/// The two steady runs of docs/DIFFERENCES.md, which the Rust calls settled: one cell, all populations 0.0 but that at rest.
-fn ruined() {
-    for at_rest in [0x7ff8_0000_0000_0000, 0xfff0_0000_0000_0000] {
-        let study = Study {
-            nx: 1,
-            ny: 1,
-            nu: 0.1,
-            collision: CollisionModel::Bgk,
-            force: [0.0, 0.0],
-            faces: Boundaries::periodic(),
-            f: vec![f64::from_bits(at_rest), 0.0, 0.0, 0.0, 0.0, 0.0, 0.0, 0.0, 0.0],
-            post: vec![0.0; 9],
-        };
-        assert_eq!(study.solver().run_to_steady_state(1e-9, 10, 1), (1, 0.0));
-        steady(&study, &[0.0, 0.0], 1e-9, 10, 1);
+/// A steady run that the Rust calls settled after one step, on cells in a row: all populations are 0.0 but those of `held`, each
+/// given by its place in the buffer.
+fn ruined(nx: usize, held: &[(usize, u64)]) {
+    let mut f = vec![0.0; 9 * nx];
+    for &(at, pattern) in held {
+        f[at] = f64::from_bits(pattern);
+    }
+    let study = Study {
+        nx,
+        ny: 1,
+        nu: 100.0,
+        collision: CollisionModel::Bgk,
+        force: [0.0, 0.0],
+        faces: Boundaries::periodic(),
+        f,
+        post: vec![0.0; 9 * nx],
+    };
+    assert_eq!(study.solver().run_to_steady_state(1e-9, 10, 1), (1, 0.0));
+    steady(&study, &vec![0.5; 2 * nx], 1e-9, 10, 1);
+}
+
+/// The steady runs of docs/DIFFERENCES.md: over a NaN, over a density of minus infinity, and over densities that overflow while
+/// every velocity is (0, 0).
+fn all_ruined() {
+    ruined(1, &[(0, 0x7ff8_0000_0000_0000)]);
+    ruined(1, &[(0, 0xfff0_0000_0000_0000)]);
+    // Directions 1 and 3 cancel in the momentum.
+    ruined(1, &[(1, 0x7fe0_0000_0000_0000), (3, 0x7fe0_0000_0000_0000)]);
+    // After a step those of the first of two cells are at the second, which is at rest: the sum overflows there.
+    for sign in [0x8000_0000_0000_0000, 0] {
+        let (moving, resting) = (sign | 0x7fd0_0000_0000_0000, sign | 0x7fe8_0000_0000_0000);
+        ruined(2, &[(2, moving), (6, moving), (1, resting)]);
     }
 }
 
@@ -328,5 +351,5 @@ fn main() {
     streaming(&mut made);
     runs(&mut made);
     steadies(&mut made);
-    ruined();
+    all_ruined();
 }

@@ -76,6 +76,10 @@ pub enum Start {
     Thin,
     /// Numbers whose squares overflow.
     Huge,
+    /// An ordinary flow at a density so large that some cells' densities overflow, and their velocities do not.
+    Dense,
+    /// The same below 0, where every velocity reads (0, 0).
+    DenseBelow,
     /// Any bits.
     Bits,
     /// Only special numbers.
@@ -95,6 +99,8 @@ impl Start {
             Start::Flow => weight * made.between(0.8, 1.2),
             Start::Thin => weight * made.between(-6e-12, 6e-12),
             Start::Huge => made.huge(),
+            Start::Dense => 1.6e308 * weight * made.between(0.8, 1.2),
+            Start::DenseBelow => -1.6e308 * weight * made.between(0.8, 1.2),
             Start::Bits => made.bits(),
             Start::Special => made.special(),
             Start::Sprinkled if made.one_in(64) => made.special(),

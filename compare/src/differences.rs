@@ -97,20 +97,47 @@ fn sums() -> Vec<Row> {
     ]
 }
 
+/// A steady run that the Rust calls settled: its steps and residual, with what it leaves of the last cell; and the port's number.
+fn ruined(asked: &'static str, s: Settings, f: &[f64], rust: &'static str, port: &'static str) -> Row {
+    let left = answers(|| {
+        let mut solver = on(&s, f);
+        let (steps, residual) = solver.run_to_steady_state(1e-9, 5, 1);
+        let last = s.nx as usize - 1;
+        (steps, residual, solver.density(last, 0), solver.velocity(last, 0))
+    });
+    let (mut f, mut post, mut u) = (f.to_vec(), vec![0.0; f.len()], vec![0.0; f.len() / 9 * 2]);
+    let (refused, [_, steps, _]) = ffi::run_to_steady_state(&s, 1e-9, 5, 1, &mut f, &mut post, &mut u);
+    row(asked, (rust, left), (port, format!("number {refused}, steps {steps}")))
+}
+
 fn steady_runs() -> Vec<Row> {
-    let steady = |population| {
-        let (mut f, mut post, mut u) = (only(population), [0.0; 9], [0.0; 2]);
-        let (refused, [_, steps, _]) = ffi::run_to_steady_state(&settings(1, 1), 1e-9, 5, 1, &mut f, &mut post, &mut u);
-        format!("number {refused} after {steps} steps")
+    let (one, two) = (settings(1, 1), Settings { nu: 100.0, ..settings(2, 1) });
+    let (huge, at_once, later) = (2f64.powi(1023), "number 9, steps 0", "number 9, steps 1");
+    let all_nan = "(1, 0.0, NaN, [NaN, NaN])";
+    // After a step directions 1 and 3 of the first cell are at the second, which is at rest.
+    let meeting = |sign: f64| {
+        let mut f = [0.0; 18];
+        (f[2], f[6], f[1]) = (sign * huge / 2.0, sign * huge / 2.0, sign * huge * 1.5);
+        f
     };
-    let rust = |population| answers(|| on(&settings(1, 1), &only(population)).run_to_steady_state(1e-9, 5, 1));
     vec![
-        row("steady run, 1 by 1, population 0 NaN", ("(1, 0.0)", rust(NAN)), ("number 9 after 0 steps", steady(NAN))),
-        row(
-            "steady run, 1 by 1, population 0 minus infinity",
-            ("(1, 0.0)", rust(MINUS_INFINITY)),
-            ("number 9 after 1 steps", steady(MINUS_INFINITY)),
+        ruined("steady run, 1 by 1, population 0 NaN", one, &only(NAN), all_nan, at_once),
+        ruined("steady run, 1 by 1, population 0 minus infinity", one, &only(MINUS_INFINITY), all_nan, at_once),
+        ruined(
+            "steady run, 1 by 1, populations 1 and 3 are 2^1023: density infinity, velocity (0, 0)",
+            one,
+            &[0.0, huge, 0.0, huge, 0.0, 0.0, 0.0, 0.0, 0.0],
+            "(1, 0.0, inf, [NaN, NaN])",
+            at_once,
         ),
+        ruined(
+            "steady run, 2 by 1, viscosity 100, -2^1022 in directions 1 and 3 of the first cell, -1.5*2^1023 in 0 of the second",
+            two,
+            &meeting(-1.0),
+            "(1, 0.0, -inf, [0.0, 0.0])",
+            later,
+        ),
+        ruined("the same with 2^1022 and 1.5*2^1023", two, &meeting(1.0), "(1, 0.0, inf, [0.0, 0.0])", later),
     ]
 }
 

@@ -25,6 +25,8 @@ pub struct Listed {
     pub sums: u64,
     /// Steady runs over a bad snapshot, which the Rust goes on with.
     pub snapshots: u64,
+    /// Those of them whose velocities are finite, and a density is not.
+    pub densities: u64,
 }
 
 /// The one NaN that the port stores where arithmetic made one.
@@ -269,8 +271,7 @@ fn steady(case: &Case, rust: &mut dyn Solver, u: &mut [f64], listed: &mut Listed
     let every = case.check_every.max(1);
     let mut last = rust.velocity_field();
     let mut residual = f64::INFINITY;
-    if bad(&last) {
-        listed.snapshots += 1;
+    if bad(case, rust, &last, listed) {
         return Answer { number: 9, words: [0; 4] };
     }
     put_snapshot(&last, u);
@@ -280,8 +281,7 @@ fn steady(case: &Case, rust: &mut dyn Solver, u: &mut [f64], listed: &mut Listed
             continue;
         }
         let now = rust.velocity_field();
-        if bad(&now) {
-            listed.snapshots += 1;
+        if bad(case, rust, &now, listed) {
             return Answer { number: 9, words: [0, step, 0, 0] };
         }
         put_snapshot(&now, u);
@@ -294,8 +294,14 @@ fn steady(case: &Case, rust: &mut dyn Solver, u: &mut [f64], listed: &mut Listed
     Answer { number: 0, words: [0, case.steps, residual.to_bits(), 0] }
 }
 
-fn bad(snapshot: &[[f64; 2]]) -> bool {
-    snapshot.as_flattened().iter().any(|component| !component.is_finite())
+/// Whether a cell has a density or a velocity component that is not finite.
+fn bad(case: &Case, rust: &dyn Solver, snapshot: &[[f64; 2]], listed: &mut Listed) -> bool {
+    let nx = case.settings.nx as usize;
+    let density = (0..case.cells()).any(|cell| !rust.density(cell % nx, cell / nx).is_finite());
+    let velocity = snapshot.as_flattened().iter().any(|component| !component.is_finite());
+    listed.snapshots += u64::from(density || velocity);
+    listed.densities += u64::from(density && !velocity);
+    density || velocity
 }
 
 fn residual_of(now: &[[f64; 2]], last: &[[f64; 2]]) -> f64 {

@@ -120,7 +120,7 @@ fn made_up(plan: &Plan) -> ExitCode {
         progress.show(|| format!("{} cases, {} entries", tally.cases, tally.entries));
     }
     report(plan, &tally, &comparison);
-    reached_all(&tally)
+    reached_all(&tally, &comparison)
 }
 
 fn plan(words: &[&str]) -> Option<Plan> {
@@ -165,15 +165,20 @@ fn report(plan: &Plan, tally: &Tally, comparison: &Comparison) {
     }
     println!("listed differences: {} sums of -0.0 only", comparison.listed.sums);
     println!("                    {} steady runs over a bad snapshot", comparison.listed.snapshots);
+    println!("                    {} of them over finite velocities, where a density is not", comparison.listed.densities);
     let (cases, entries) = (tally.cases, tally.entries);
     println!("compare: {cases} cases on {}, {entries} entries compared, 0 differences that are not listed", level());
 }
 
-/// A long comparison that never met some number would say little.
-fn reached_all(tally: &Tally) -> ExitCode {
-    let missed: Vec<usize> = (0..12).filter(|&number| tally.by_number[number] == 0).collect();
+/// A long comparison that never met some number, or number 9 for a density alone, would say little.
+fn reached_all(tally: &Tally, comparison: &Comparison) -> ExitCode {
+    let numbers = (0..12).filter(|&number| tally.by_number[number] == 0).map(|number| number.to_string());
+    let mut missed: Vec<String> = numbers.collect();
+    if comparison.listed.densities == 0 {
+        missed.push("9 for a density alone".to_string());
+    }
     if tally.cases >= 10_000 && !missed.is_empty() {
-        println!("compare: no case was answered with {missed:?}");
+        println!("compare: no case was answered with {}", missed.join(", "));
         return ExitCode::FAILURE;
     }
     ExitCode::SUCCESS

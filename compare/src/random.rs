@@ -25,7 +25,7 @@ const WHOLE: [Operation; 10] = [
     Operation::Lossless,
 ];
 
-const STARTS: [Start; 12] = [
+const STARTS: [Start; 14] = [
     Start::Flow,
     Start::Flow,
     Start::Flow,
@@ -36,6 +36,8 @@ const STARTS: [Start; 12] = [
     Start::Special,
     Start::Thin,
     Start::Huge,
+    Start::Dense,
+    Start::DenseBelow,
     Start::MinusZeros,
     Start::AllMinusZeros,
 ];

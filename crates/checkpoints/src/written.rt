@@ -11,7 +11,7 @@ fn read_back(file: &[u8]) {
     let r = checkpoint::read_checkpoint(file, &mut f);
     show::gives(b"read_checkpoint", b"what was written", r.number);
     lines::stored(r);
-    show::holds(same(f, F), b", every bit");
+    show::holds(same(&f, &F), b", every bit");
     show::newline();
 }
 

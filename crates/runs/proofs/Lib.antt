@@ -5,3 +5,4 @@ pub mod Settling
 pub mod One
 pub mod Tied
 pub mod Split
+pub mod Ruined

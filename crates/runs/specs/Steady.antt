@@ -44,9 +44,9 @@ unfoldable pub someOf : (ℕ → Bool) → ℕ → Bool
 someOf g zero = false
 someOf g (suc n) = someOf g n || g n
 
--- A BAD SNAPSHOT: a cell has a velocity component that is not finite
+-- A BAD SNAPSHOT: a cell has a density or a velocity component that is not finite
 unfoldable pub badCell : Settings → List ℕ → ℕ → Bool
-badCell s f c = let m = velocityAt s f c in notFinite (m .ux) || notFinite (m .uy)
+badCell s f c = let m = velocityAt s f c in notFinite (m .density) || notFinite (m .ux) || notFinite (m .uy)
 
 unfoldable pub badSnapshot : Settings → List ℕ → Bool
 badSnapshot s f = someOf (badCell s f) (s .nx * s .ny)

@@ -22,7 +22,7 @@ fn bad_cell(s: Settings, f: &[u64], c: usize) -> bool
     ensures { λ r. ⌜ r ≡ badCell s (now (f .entry)) c ⌝ }
 {
     let m = readings::read_velocity(f, s.nx * s.ny, c, s.fx, s.fy);
-    number::not_finite(m.ux) | number::not_finite(m.uy)
+    number::not_finite(m.density) | number::not_finite(m.ux) | number::not_finite(m.uy)
 }
 
 pub fn bad_snapshot(s: Settings, f: &[u64]) -> bool

@@ -16,13 +16,16 @@ pub fn kept(a: &[u64]) -> bool {
     true
 }
 
-pub fn same(a: [u64; 9], b: [u64; 9]) -> bool {
-    let mut i = 0;
-    while i < 9 {
-        if a[i] != b[i] {
+pub fn same(a: &[u64], b: &[u64]) -> bool {
+    if a.len() != b.len() {
+        return false;
+    }
+    let mut k = 0;
+    while k < a.len() {
+        if a[k] != b[k] {
             return false;
         }
-        i += 1;
+        k += 1;
     }
     true
 }

@@ -43,12 +43,12 @@ fn all_runs(x: u64) -> u64 {
     replays::all(5, 2, x, &mut [0; 90], &mut [0; 90])
 }
 
-// The same to a steady state, on grids of three sizes, and the two that the Rust calls settled.
+// The same to a steady state, on grids of three sizes, and those ruined ones that the Rust calls settled.
 fn all_steadies(x: u64) {
     let x = steadies::all(1, 1, x, &mut [0; 9], &mut [0; 9], &mut [0; 2]);
     let x = steadies::all(2, 3, x, &mut [0; 54], &mut [0; 54], &mut [0; 12]);
     steadies::all(4, 4, x, &mut [0; 144], &mut [0; 144], &mut [0; 32]);
-    steadies::both_ruined();
+    steadies::all_ruined();
 }
 
 fn main() {

@@ -17,6 +17,12 @@ const TOLERANCES: [u64; 6] = [
 
 const EVERY: [u64; 4] = [0, 1, 3, 50];
 
+// What a velocity buffer holds before a run that may leave it as it was.
+const HALF: u64 = 0x3fe0_0000_0000_0000;
+
+// Twice this number is no f64.
+const HUGE: u64 = 0x7fe0_0000_0000_0000;
+
 // What a line says of an answer.
 struct Values {
     number: u32,
@@ -99,17 +105,32 @@ pub fn all(nx: usize, ny: usize, x: u64, f: &mut [u64], post: &mut [u64], u: &mu
     x
 }
 
-// The recorded difference from the Rust: one cell, all populations 0.0 but that at rest.
-fn ruined(f: &mut [u64]) {
-    let s = studies::periodic(1, 1, 0.1, 0.0, 0.0, Collision::Bgk);
-    let mut post = [0; 9];
-    let mut u = [0; 2];
-    let answer = runs::run_to_steady_state(s, 1e-9, 10, 1, f, &mut post, &mut u);
-    show_answer(answer, f, &post, &u);
+// A steady run that the Rust calls settled after one step, on cells in a row.
+fn ruined(nx: usize, f: &mut [u64], post: &mut [u64], u: &mut [u64]) {
+    let s = studies::periodic(nx, 1, 100.0, 0.0, 0.0, Collision::Bgk);
+    let answer = runs::run_to_steady_state(s, 1e-9, 10, 1, f, post, u);
+    show_answer(answer, f, post, u);
 }
 
-// A NaN ruins the first snapshot, minus infinity the one after the first step.
-pub fn both_ruined() {
-    ruined(&mut [0x7ff8_0000_0000_0000, 0, 0, 0, 0, 0, 0, 0, 0]);
-    ruined(&mut [0xfff0_0000_0000_0000, 0, 0, 0, 0, 0, 0, 0, 0]);
+// One cell whose first snapshot is bad.
+fn at_once(f: &mut [u64]) {
+    ruined(1, f, &mut [0; 9], &mut [HALF; 2]);
+}
+
+// Two cells at rest. After a step directions 1 and 3 of the first are at the second, whose density then overflows.
+fn later(moving: u64, resting: u64) {
+    let mut f = [0; 18];
+    f[2] = moving;
+    f[6] = moving;
+    f[1] = resting;
+    ruined(2, &mut f, &mut [0; 18], &mut [HALF; 4]);
+}
+
+// The recorded differences from the Rust: a NaN, a density of minus infinity, and densities that overflow.
+pub fn all_ruined() {
+    at_once(&mut [0x7ff8_0000_0000_0000, 0, 0, 0, 0, 0, 0, 0, 0]);
+    at_once(&mut [0xfff0_0000_0000_0000, 0, 0, 0, 0, 0, 0, 0, 0]);
+    at_once(&mut [0, HUGE, 0, HUGE, 0, 0, 0, 0, 0]);
+    later(0xffd0_0000_0000_0000, 0xffe8_0000_0000_0000);
+    later(0x7fd0_0000_0000_0000, 0x7fe8_0000_0000_0000);
 }

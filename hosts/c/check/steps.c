@@ -114,28 +114,43 @@ static void steady_at_rest(double tolerance, uint64_t steps, uint64_t check_ever
 }
 
 /* A bad first snapshot: nothing is written. */
-static void steady_bad_at_first(void) {
-    const double f[DIRECTIONS] = {0, INFINITY};
-    Call call = begin(1, 1, "a first snapshot that is not finite");
+static void steady_bad_at_first(const char *name, const double f[DIRECTIONS]) {
+    Call call = begin(1, 1, "a first snapshot with %s", name);
     hold_cell(f);
     call.tolerance = 1.0;
     call.steps = 5;
     check(&RUN_TO_STEADY_STATE, &call, 9);
 }
 
-/* Density minus infinity has velocity (0, 0), and collides to NaNs. */
-static void steady_bad_later(void) {
-    Call call = begin(1, 1, "a later snapshot that is not finite");
-    for (size_t i = 0; i < DIRECTIONS; i++) {
-        given[F][i] = i == 0 ? -INFINITY : 0.0;
-        memcpy(&wanted[F][i], &MADE_NAN, sizeof MADE_NAN);
-        memcpy(&wanted[POST][i], &MADE_NAN, sizeof MADE_NAN);
+/* Two cells. After a step directions 1 and 3 of the first are at the second, whose density then overflows; every velocity is
+ * finite. The first snapshot is kept. */
+static void steady_bad_later(double sign) {
+    Call call = begin(2, 1, "a later snapshot with a density of %g", sign * INFINITY);
+    for (size_t k = 0; k < 2 * DIRECTIONS; k++) {
+        given[F][k] = wanted[F][k] = sign * (k == 2 ? 4.5e307 : k == 6 ? 4.4e307 : k == 1 ? 1.35e308 : 0.0);
     }
-    wanted[U][0] = wanted[U][1] = 0.0;
+    call.settings.nu = 100.0;
     call.tolerance = 1.0;
     call.steps = 5;
+    velocities_of(&call.settings, given[F], wanted[U]);
+    step(&call.settings, wanted[F], wanted[POST]);
     wanted_answer[1] = 1;
     check(&RUN_TO_STEADY_STATE, &call, 9);
+}
+
+static void steady_bad(void) {
+    const double not_a_number[DIRECTIONS] = {NAN}, below[DIRECTIONS] = {-INFINITY}, infinite[DIRECTIONS] = {0, INFINITY};
+    const double overflowing[DIRECTIONS] = {0, 9e307, 0, 9e307};
+    const double fast_along_x[DIRECTIONS] = {0, 1e300, 0, -1e300, 0, 0, 0, 0, 1e-11};
+    const double fast_along_y[DIRECTIONS] = {0, 0, 1e300, 0, -1e300, 0, 0, 0, 1e-11};
+    steady_bad_at_first("a NaN", not_a_number);
+    steady_bad_at_first("a density of minus infinity, at rest", below);
+    steady_bad_at_first("an infinite population", infinite);
+    steady_bad_at_first("a density that overflows, at rest", overflowing);
+    steady_bad_at_first("an infinite velocity along x alone", fast_along_x);
+    steady_bad_at_first("an infinite velocity along y alone", fast_along_y);
+    steady_bad_later(-1.0);
+    steady_bad_later(1.0);
 }
 
 static void run_to_steady_state(void) {
@@ -147,8 +162,7 @@ static void run_to_steady_state(void) {
     steady_at_rest(0.0, 5, 2, 5);
     steady_at_rest(1.0, 2, 3, 2);
     steady_at_rest(1.0, 0, 1, 0);
-    steady_bad_at_first();
-    steady_bad_later();
+    steady_bad();
 }
 
 void check_steps(void) {

@@ -20,7 +20,7 @@ pub enum Refusal {
     NotCopying,
     /// 8: reverse on faces that are not lossless.
     Lossy,
-    /// 9: a steady run's snapshot is not finite. The state is as after that many steps.
+    /// 9: a steady run's snapshot has a density or a velocity component that is not finite. The state is as after that many steps.
     BadSnapshot {
         /// Steps taken: 0 if the first snapshot is bad.
         steps: u64,
@@ -89,7 +89,7 @@ impl Refusal {
             Refusal::Place => (6, "x, y or direction outside"),
             Refusal::NotCopying => (7, "the lossless question or the reverse meets MovingWall, Velocity or Pressure"),
             Refusal::Lossy => (8, "reverse on faces that are not lossless"),
-            Refusal::BadSnapshot { .. } => (9, "a snapshot has a velocity component that is not finite"),
+            Refusal::BadSnapshot { .. } => (9, "a snapshot has a density or a velocity component that is not finite"),
             Refusal::Run => (10, "the tolerance is NaN, or there are more than 1,000,000 steps"),
             Refusal::NoDirection => (11, "the two components are those of no direction"),
             Refusal::FileShort => (12, "the file has fewer than five bytes, so no version"),

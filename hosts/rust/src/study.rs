@@ -41,6 +41,26 @@ pub struct Steady {
     pub residual: f64,
 }
 
+/// A cell whose density or a velocity component is not finite.
+#[derive(Clone, Copy, Debug, PartialEq)]
+pub struct BadCell {
+    /// The cell's column.
+    pub x: usize,
+    /// The cell's row.
+    pub y: usize,
+    /// Its density.
+    pub density: f64,
+    /// Its velocity.
+    pub velocity: [f64; 2],
+}
+
+impl fmt::Display for BadCell {
+    fn fmt(&self, out: &mut fmt::Formatter) -> fmt::Result {
+        let BadCell { x, y, density, velocity: [ux, uy] } = self;
+        write!(out, "x {x}, y {y}, with density {density:?} and velocity ({ux:?}, {uy:?})")
+    }
+}
+
 /// Settings or a checkpoint for a study have other sides than its buffers.
 #[derive(Clone, Copy, Debug, PartialEq, Eq)]
 pub struct OtherSides {
@@ -162,6 +182,20 @@ impl Study {
     /// The velocity buffer: what the last velocity field or snapshot of a steady run left there.
     pub fn snapshot(&self) -> &[f64] {
         &self.u
+    }
+
+    /// The first cell, in the order of `x + y * nx`, whose density or a velocity component is not finite. A steady run that
+    /// meets one in a snapshot is refused with 9.
+    pub fn first_bad_cell(&self) -> Result<Option<BadCell>, Refusal> {
+        let Settings { nx, ny, .. } = self.settings;
+        for cell in 0..nx * ny {
+            let (x, y) = (cell % nx, cell / nx);
+            let (density, velocity) = (self.density(x, y)?, self.velocity(x, y)?);
+            if !density.is_finite() || velocity.iter().any(|component| !component.is_finite()) {
+                return Ok(Some(BadCell { x, y, density, velocity }));
+            }
+        }
+        Ok(None)
     }
 
     /// The sum of all densities.

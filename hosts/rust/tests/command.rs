@@ -2,7 +2,7 @@
 
 mod asked;
 
-use asked::{failed, out, study, value};
+use asked::{failed, out, ruined, study, value};
 use std::io;
 use std::process::Command;
 
@@ -17,9 +17,13 @@ fn each_study_ends_in_the_state_that_the_solvers_source_gives() {
 }
 
 #[test]
-fn a_run_of_no_steps_leaves_the_start_or_is_refused() {
+fn a_run_of_no_steps_leaves_the_start_ruined_or_not_or_is_refused() {
     let start = out("run STUDIES/shear.study --steps 0");
     assert_eq!((value(&start, "steps"), value(&start, "mass")), ("0", "65536.0"));
+    let (start, wrong) =
+        ruined(&format!("run {}", study("hollow", "sides 2 2\nviscosity 1\nsteps 0\nstart uniform -inf 0 0\n")));
+    assert_eq!((value(&start, "steps"), value(&start, "mass")), ("0", "-inf"));
+    assert!(wrong.contains("hollow.study: the state at step 0 is ruined: "), "{wrong}");
     let lines = ["viscosity -1", "viscosity 1\nforce inf 0", "viscosity 1\nx-min velocity 1 0", "viscosity 1\ncollision trt 3"];
     for (line, number) in lines.into_iter().zip([3, 4, 5, 3]) {
         let made = study("no-steps", &format!("sides 2 2\nsteps 0\n{line}\n"));
@@ -84,6 +88,6 @@ fn a_reader_that_has_seen_enough_ends_it_quietly() {
 #[test]
 fn help_says_what_the_fingerprint_and_the_statuses_are() {
     let help = out("--help");
-    assert!(help.contains("FNV-1a") && help.contains("1 refused, 2 "));
+    assert!(help.contains("FNV-1a") && help.contains("1 refused, 2 ") && help.contains("4 the state is ruined"));
     assert_eq!(out("run --help"), help);
 }

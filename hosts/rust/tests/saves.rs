@@ -3,7 +3,7 @@
 mod asked;
 mod document;
 
-use asked::{failed, out, path, study, value};
+use asked::{failed, out, path, ruined, study, value};
 use std::fs::{self, Permissions};
 use std::os::unix::fs::{FileExt, PermissionsExt, symlink};
 use std::process::{Command, Stdio};
@@ -67,11 +67,11 @@ fn a_saved_file_has_the_bytes_of_the_document() {
     let weights = [4.0 / 9.0, axis, axis, axis, axis, diagonal, diagonal, diagonal, diagonal];
     assert_eq!(bytes(&format!("{made}/rest")), document::checkpoint(1, 1, 0, &weights));
 
-    // No step: all bits go through as they are.
+    // No step: all bits go through as they are, a NaN's too.
     let sides = study("sides", "sides 3 2\nviscosity 0.1\nsteps 0\n");
     let file = document::checkpoint(3, 2, 0x0102_0304, &entries(6));
     put(&format!("{made}/in"), &file);
-    out(&format!("run {sides} --from {made}/in --save {made}/out"));
+    ruined(&format!("run {sides} --from {made}/in --save {made}/out"));
     assert_eq!(bytes(&format!("{made}/out")), file);
 }
 

@@ -1,6 +1,6 @@
 //! Every operation of a study, every refusal that its methods can meet, and what a refusal leaves.
 
-use brothwagon::{Collision, Face, Lossless, OtherSides, Refusal, Settings, Study, dir_index, trt_omega_minus};
+use brothwagon::{BadCell, Collision, Face, Lossless, OtherSides, Refusal, Settings, Study, dir_index, trt_omega_minus};
 
 /// A study whose post-collision entries each hold their own index.
 fn numbered(settings: Settings) -> Study {
@@ -94,13 +94,36 @@ fn a_steady_run_settles_or_runs_out() {
 #[test]
 fn a_bad_snapshot_says_after_how_many_steps() {
     let mut study = Study::new(Settings::new(2, 2, 0.1)).unwrap();
-    study.f_mut()[1] = f64::INFINITY;
+    // At rest, with a density of minus infinity.
+    study.f_mut()[1] = f64::NEG_INFINITY;
     assert_eq!(study.run_to_steady_state(1e-9, 10, 1), Err(Refusal::BadSnapshot { steps: 0 }));
     // A finite velocity whose square is not: the first step ruins it.
     study.initialize_uniform(1.0, 0.0, 0.0).unwrap();
     study.f_mut()[4] = 1e200;
     study.f_mut()[12] = -1e200;
     assert_eq!(study.run_to_steady_state(1e-9, 10, 1), Err(Refusal::BadSnapshot { steps: 1 }));
+}
+
+#[test]
+fn the_first_bad_cell_has_a_density_or_a_velocity_that_is_not_finite() {
+    let mut study = Study::new(Settings::new(3, 2, 0.1)).unwrap();
+    study.initialize_uniform(1.0, 0.0, 0.0).unwrap();
+    assert_eq!(study.first_bad_cell(), Ok(None));
+    // Cell (1, 1): its density is minus infinity, its velocity reads (0, 0).
+    study.f_mut()[4] = f64::NEG_INFINITY;
+    let at_rest = BadCell { x: 1, y: 1, density: f64::NEG_INFINITY, velocity: [0.0, 0.0] };
+    assert_eq!(study.first_bad_cell(), Ok(Some(at_rest)));
+    assert_eq!(at_rest.to_string(), "x 1, y 1, with density -inf and velocity (0.0, 0.0)");
+    // Cell (2, 0), which is before it: opposite directions cancel in the density alone.
+    let cell = [0.0, 1e300, 0.0, -1e300, 0.0, 0.0, 0.0, 0.0, 1e-11];
+    for (i, population) in cell.into_iter().enumerate() {
+        study.f_mut()[2 + 6 * i] = population;
+    }
+    let BadCell { x, y, density, velocity } = study.first_bad_cell().unwrap().unwrap();
+    assert_eq!((x, y, density, velocity[0]), (2, 0, 1e-11, f64::INFINITY));
+    // A study whose velocities cannot be read is refused.
+    study.change(Settings { fx: f64::NAN, ..*study.settings() }).unwrap();
+    assert_eq!(study.first_bad_cell(), Err(Refusal::Force));
 }
 
 #[test]

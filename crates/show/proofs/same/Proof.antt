@@ -1,14 +1,15 @@
 -- `show::same` is safe and ends.
 use Prim.Native.Nat.{_≤_, _-_}
+use lib.ListN.{length}
 use borrow.Author.Needs.{needs}
 use Rattle.show.proofs.same.Statement.{statement}
 use Rattle.show.proofs.same.Tie as tie
 
 abbrev Inv-loop : tie.InvT-loop
-Inv-loop a b i₀ i = i ≤ 9
+Inv-loop a b k₀ k = k ≤ length a
 
 abbrev μ-loop : tie.MeasureT-loop
-μ-loop a b i₀ i = 9 - i
+μ-loop a b k₀ k = length a - k
 
 pub same-spec : {M : Type 1} → statement M
 same-spec =
@@ -16,6 +17,7 @@ same-spec =
     (tie.spec
     Inv-loop
     μ-loop
+    (λ c. search needs)
     (λ c. search needs)
     (λ c. search needs)
     (λ c. search needs)

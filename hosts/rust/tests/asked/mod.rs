@@ -34,6 +34,13 @@ pub fn failed(words: &str) -> (Option<i32>, String) {
     (end.status.code(), String::from_utf8(end.stderr).unwrap())
 }
 
+/// The answer about a ruined state, and what was said about it.
+pub fn ruined(words: &str) -> (String, String) {
+    let end = brothwagon(words);
+    assert_eq!(end.status.code(), Some(4));
+    (String::from_utf8(end.stdout).unwrap(), String::from_utf8(end.stderr).unwrap())
+}
+
 /// The value of a line of an answer.
 pub fn value<'a>(said: &'a str, name: &str) -> &'a str {
     said.lines().find_map(|line| line.trim_start().strip_prefix(name)).unwrap().trim_start()

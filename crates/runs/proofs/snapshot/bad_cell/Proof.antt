@@ -1,4 +1,4 @@
--- `runs::snapshot::bad_cell` meets its contract: both components of what is read are tested.
+-- `runs::snapshot::bad_cell` meets its contract: the density and both components of what is read are tested.
 use borrow.Author.Needs.{needs}
 use Rattle.runs.specs.Steady.{badCell}
 use Rattle.runs.proofs.snapshot.bad_cell.Statement.{statement}
@@ -7,10 +7,11 @@ use Rattle.runs.proofs.snapshot.bad_cell.Tie as tie
 returns : tie.Need-returns
 unfolding badCell
 returns c =
-    let m = c .before .before in
-    rw (c .not-finite2 .ensures, c .before .not-finite .ensures, m .read-velocity .ensures)
+    let x = c .before in
+    let m = x .before .before in
+    rw (c .not-finite3 .ensures, x .not-finite2 .ensures, x .before .not-finite .ensures, m .read-velocity .ensures)
 
 pub bad-cell-spec : {M : Type 1} → statement M
 bad-cell-spec =
     tie.close
-    (tie.spec (λ c. search needs) (λ c κs. search needs) (λ c κs. search needs) (λ c κs. search needs) returns)
+    (tie.spec (λ c. search needs) (λ c κs. search needs) (λ c κs. search needs) (λ c κs. search needs) (λ c κs. search needs) returns)

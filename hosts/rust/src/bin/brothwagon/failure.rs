@@ -1,8 +1,8 @@
-//! Why the command ended without an answer.
+//! Why the command ended without an answer, or with one that nobody should take for good.
 
-use brothwagon::Refusal;
+use brothwagon::{BadCell, Refusal};
 use std::fmt;
-use std::io;
+use std::io::{self, ErrorKind};
 use std::path::Path;
 
 pub enum Failure {
@@ -13,6 +13,8 @@ pub enum Failure {
     Unsaved(String),
     /// The answer cannot be written.
     Unwritten(io::Error),
+    /// A cell of the state has a density or a velocity component that is not finite.
+    Ruined(String),
 }
 
 impl Failure {
@@ -20,10 +22,20 @@ impl Failure {
         Failure::Unsaved(format!("nothing can be saved as {}: {why}", path.display()))
     }
 
-    /// A refusal is said with the path of the file that it is about.
+    pub fn ruined(why: impl fmt::Display, first: BadCell) -> Failure {
+        Failure::Ruined(format!("{why}; the first such cell is {first}"))
+    }
+
+    /// A reader that has seen enough is no fault.
+    pub fn unread(&self) -> bool {
+        matches!(self, Failure::Unwritten(why) if why.kind() == ErrorKind::BrokenPipe)
+    }
+
+    /// A refusal and a ruined state are said with the path of the file that they are about.
     pub fn about(self, path: &str) -> Failure {
         match self {
             Failure::Refused(why) => Failure::Refused(format!("{path}: {why}")),
+            Failure::Ruined(why) => Failure::Ruined(format!("{path}: {why}")),
             other => other,
         }
     }
@@ -33,6 +45,7 @@ impl Failure {
             Failure::Refused(_) => 1,
             Failure::Unreadable(_) => 2,
             Failure::Unsaved(_) | Failure::Unwritten(_) => 3,
+            Failure::Ruined(_) => 4,
         }
     }
 }
@@ -40,7 +53,9 @@ impl Failure {
 impl fmt::Display for Failure {
     fn fmt(&self, out: &mut fmt::Formatter) -> fmt::Result {
         match self {
-            Failure::Unreadable(why) | Failure::Refused(why) | Failure::Unsaved(why) => write!(out, "{why}"),
+            Failure::Unreadable(why) | Failure::Refused(why) | Failure::Unsaved(why) | Failure::Ruined(why) => {
+                write!(out, "{why}")
+            }
             Failure::Unwritten(why) => write!(out, "the answer cannot be written: {why}"),
         }
     }

@@ -2,6 +2,7 @@
 
 mod answer;
 mod failure;
+mod judged;
 mod options;
 mod progress;
 mod read;
@@ -21,7 +22,7 @@ use show::show;
 use start::Start;
 use std::env;
 use std::ffi::OsString;
-use std::io::{ErrorKind, Write, stderr, stdout};
+use std::io::{Write, stderr, stdout};
 use std::process::ExitCode;
 use steady::steady;
 
@@ -31,8 +32,7 @@ fn main() -> ExitCode {
     let mut out = stdout().lock();
     match words().and_then(|words| command(&words, &mut out)).and_then(|()| Ok(out.flush()?)) {
         Ok(()) => ExitCode::SUCCESS,
-        // A reader that has seen enough.
-        Err(Failure::Unwritten(why)) if why.kind() == ErrorKind::BrokenPipe => ExitCode::SUCCESS,
+        Err(failure) if failure.unread() => ExitCode::SUCCESS,
         Err(failure) => {
             // Where there is no one to tell, the status still does.
             let _ = writeln!(stderr(), "brothwagon: {failure}");

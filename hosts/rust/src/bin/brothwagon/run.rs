@@ -2,6 +2,7 @@
 
 use crate::answer::{line, state, title};
 use crate::failure::Failure;
+use crate::judged::judged;
 use crate::options::Options;
 use crate::progress::Progress;
 use crate::saves::Saves;
@@ -19,13 +20,15 @@ pub fn run(options: &Options, mut start: Start, out: &mut impl Write) -> Result<
     let first = u64::from(start.step());
     let running = walk(&mut start.study, first, steps, &saves)?;
 
-    title(out, &options.study, &start.study)?;
-    line(out, "steps", steps)?;
-    start.answer(out, steps)?;
-    // A run of no steps takes no time.
-    line(out, "steps per second", format!("{:.1}", steps as f64 / running.as_secs_f64().max(f64::MIN_POSITIVE)))?;
-    state(out, &start.study)?;
-    Ok(saves.answer(out, first, first + steps)?)
+    judged(&start.study, first + steps, || {
+        title(out, &options.study, &start.study)?;
+        line(out, "steps", steps)?;
+        start.answer(out, steps)?;
+        // A run of no steps takes no time.
+        line(out, "steps per second", format!("{:.1}", steps as f64 / running.as_secs_f64().max(f64::MIN_POSITIVE)))?;
+        state(out, &start.study)?;
+        Ok(saves.answer(out, first, first + steps)?)
+    })
 }
 
 /// Takes the steps, says how far it is, and saves what is to be saved: how long the steps alone took.

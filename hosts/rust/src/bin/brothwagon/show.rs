@@ -2,6 +2,7 @@
 
 use crate::answer::{line, state, title};
 use crate::failure::Failure;
+use crate::judged::judged;
 use crate::read;
 use brothwagon::{Settings, Study};
 use std::io::Write;
@@ -10,10 +11,13 @@ pub fn show(path: &str, out: &mut impl Write) -> Result<(), Failure> {
     let checkpoint = read::checkpoint(path)?;
     let (nx, ny) = checkpoint.sides();
     let step = checkpoint.step();
-    // A checkpoint has no settings but its sides: of the others, the mass asks for none and the kinetic energy for the force.
+    // A checkpoint has no settings but its sides: of the others, the density asks for none and the velocity for the force.
     let mut study = Study::new(Settings::new(nx, ny, 1.0))?;
     study.load(checkpoint).expect("the study has the checkpoint's sides");
-    title(out, path, &study)?;
-    line(out, "step", step)?;
-    state(out, &study)
+    let said = judged(&study, step.into(), || {
+        title(out, path, &study)?;
+        line(out, "step", step)?;
+        state(out, &study)
+    });
+    said.map_err(|failure| failure.about(path))
 }
