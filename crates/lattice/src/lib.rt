@@ -11,7 +11,7 @@ ghost use lib.Ieee.{binary64, ofInt};
 ghost use Rattle.number.specs.Number.{_⊕_, _⊗_};
 ghost use Rattle.lattice.specs.Lattice as Lattice;
 ghost use Rattle.lattice.specs.Lattice.{ex, ey, W, OPP, basisFloats, normFloats};
-ghost use Rattle.lattice.specs.Lookup.{isRow, dirIndexOf, mirror};
+ghost use Rattle.lattice.specs.Lookup.{dirIndexOf, mirror};
 ghost use Rattle.lattice.specs.Sides as Sides;
 ghost use Rattle.lattice.specs.Sides.{normal, tangent, frameOf};
 
@@ -129,30 +129,28 @@ pub struct Found {
     pub direction: usize,
 }
 
-fn is_row(i: usize, ex: i32, ey: i32) -> bool
-    requires { ⌜ i < 9 ⌝ }
-    ensures { λ r. ⌜ r ≡ isRow i ex ey ⌝ }
-{
-    (E[i][0] == ex) & (E[i][1] == ey)
-}
+// The directions by their components, as the picture above has them, its lowest row first: row ey + 1, column ex + 1. They are
+// bytes, since a table is built anew wherever it is read, and nine bytes take two stores.
+const BY_COMPONENTS: [[u8; 3]; 3] = [[7, 4, 8], [3, 0, 1], [6, 2, 5]];
 
 // The direction whose components are (ex, ey), for any two numbers.
 pub fn dir_index(ex: i32, ey: i32) -> Found
     ensures { λ r. ⌜ r ≡ dirIndexOf ex ey ⌝ }
 {
-    let mut i = 0;
-    while i < 9 {
-        if is_row(i, ex, ey) {
-            return Found {
-                number: 0,
-                direction: i,
-            };
-        }
-        i += 1;
+    let x_outside = (ex < -1) | (1 < ex);
+    let y_outside = (ey < -1) | (1 < ey);
+    if x_outside | y_outside {
+        return Found {
+            number: 11,
+            direction: 0,
+        };
     }
+    let row = (ey + 1) as usize;
+    let column = (ex + 1) as usize;
+    let direction = BY_COMPONENTS[row][column] as usize;
     Found {
-        number: 11,
-        direction: 0,
+        number: 0,
+        direction,
     }
 }
 
