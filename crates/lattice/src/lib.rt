@@ -129,9 +129,9 @@ pub struct Found {
     pub direction: usize,
 }
 
-// The directions by their components, as the picture above has them, its lowest row first: row ey + 1, column ex + 1. They are
-// bytes, since a table is built anew wherever it is read, and nine bytes take two stores.
-const BY_COMPONENTS: [[u8; 3]; 3] = [[7, 4, 8], [3, 0, 1], [6, 2, 5]];
+// The picture above as one number, a hexadecimal digit a direction: a table that a shift reads. An array would be built anew
+// at every read.
+const PICTURE: usize = 0x625_301_748;
 
 // The direction whose components are (ex, ey), for any two numbers.
 pub fn dir_index(ex: i32, ey: i32) -> Found
@@ -145,9 +145,11 @@ pub fn dir_index(ex: i32, ey: i32) -> Found
             direction: 0,
         };
     }
+    // Digits count from the last one on, and so places from the picture's lower right corner.
     let row = (ey + 1) as usize;
-    let column = (ex + 1) as usize;
-    let direction = BY_COMPONENTS[row][column] as usize;
+    let column = (1 - ex) as usize;
+    let place = 3 * row + column;
+    let direction = (PICTURE >> (4 * place)) & 15;
     Found {
         number: 0,
         direction,
