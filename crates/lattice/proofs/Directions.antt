@@ -15,13 +15,13 @@ use Rattle.lattice.specs.Lookup.{sameℤ, isRow, lookup, dirIndexOf}
 
 -- ---- the test of a row
 
-pub same-is : (a b : ℤ) → sameℤ a b ≡ true → a ≡ b
+same-is : (a b : ℤ) → sameℤ a b ≡ true → a ≡ b
 same-is (pos m) (pos n) e = ap pos (eqb-true m n e)
 same-is (pos m) (negsuc n) e = absurd (subst T (sym e) tt)
 same-is (negsuc m) (pos n) e = absurd (subst T (sym e) tt)
 same-is (negsuc m) (negsuc n) e = ap negsuc (eqb-true m n e)
 
-pub same-self : (a : ℤ) → sameℤ a a ≡ true
+same-self : (a : ℤ) → sameℤ a a ≡ true
 same-self (pos m) = is-true (eqb m m) (eqb-refl m)
 same-self (negsuc m) = is-true (eqb m m) (eqb-refl m)
 

@@ -39,6 +39,10 @@ pub const E: [[i32; 2]; 9] = [
     [1, -1],
 ];
 
+// The directions by their components: the picture above as one number, a hexadecimal digit a direction. A shift reads it, where
+// an array would be built anew at every read.
+const PICTURE: usize = 0x625_301_748;
+
 // The weights, each one division.
 pub const W: [f64; 9] = [
     4.0 / 9.0,
@@ -128,10 +132,6 @@ pub struct Found {
     pub number: u32,
     pub direction: usize,
 }
-
-// The picture above as one number, a hexadecimal digit a direction: a table that a shift reads. An array would be built anew
-// at every read.
-const PICTURE: usize = 0x625_301_748;
 
 // The direction whose components are (ex, ey), for any two numbers.
 pub fn dir_index(ex: i32, ey: i32) -> Found
