@@ -85,15 +85,15 @@ record Placed (z : ℤ) : Type 0 where
   natural : T (nonNeg (kept z))
   small : natAbs (kept z) < 3
 
-abbrev tests : ℤ → List Bool
-tests z = ltb (mag z) (2 ^ 31) ∷ nonNeg (kept z) ∷ ltb (natAbs (kept z)) 3 ∷ []
+abbrev asked : ℤ → List Bool
+asked z = ltb (mag z) (2 ^ 31) ∷ nonNeg (kept z) ∷ ltb (natAbs (kept z)) 3 ∷ []
 
 abbrev passed : List Bool
 passed = true ∷ true ∷ true ∷ []
 
-placed : (g : ℤ → ℤ) → three (λ z. tests (g z)) ≡ three (λ z. passed) → (z : ℤ) → outside z ≡ false → Placed (g z)
+placed : (g : ℤ → ℤ) → three (λ z. asked (g z)) ≡ three (λ z. passed) → (z : ℤ) → outside z ≡ false → Placed (g z)
 placed g e z o =
-    let r = all-three (λ z. tests (g z)) (λ z. passed) e z o in
+    let r = all-three (λ z. asked (g z)) (λ z. passed) e z o in
     record {
       fits = record { sfits = ltb-true (mag (g z)) (2 ^ 31) (cc) };
       natural = subst T {x = true} {y = nonNeg (kept (g z))} (cc) tt;
