@@ -8,7 +8,6 @@ use lib.IntN.{ℤ, pos, negsuc}
 use lib.Ieee.Bits.{is-true}
 use borrow.Author.Tests.{eqb-true, eqb-false}
 use Rattle.lattice.specs.declared.Found.{Found}
-use Rattle.lattice.specs.declared.Axis.{Axis}
 use Rattle.lattice.specs.declared.Axis.the-variants.{X, Y}
 use Rattle.lattice.specs.Lattice.{E}
 use Rattle.lattice.specs.Lookup.{sameℤ, isRow, lookup, dirIndexOf}
