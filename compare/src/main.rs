@@ -7,6 +7,7 @@ mod comparison;
 mod differences;
 mod expected;
 mod levels;
+mod lookups;
 mod made;
 mod progress;
 mod random;
@@ -38,6 +39,8 @@ Before the cases, or alone (--checkpoints), come checkpoint files, which the Rus
 with a reading of the format's own words. It is given every prefix of two small files, every value of each byte before the
 entries, and sides and lengths about their limits; then it writes N made-up states and reads them back, and reads N files
 that are spoiled. The number, the answer and all that is lent are compared. With --checkpoints, --only picks one of these.
+Then comes the lookup of a direction: every pair of components out of -3 to 3 and the ends of i32, against the Rust's
+search.
 
 --studies runs each study of the repository for 20 steps instead, or for all its steps (--whole), prints the fingerprint
 that the Rust gives it, and ends with status 1 where the library gives another, or where a study is not physical: a speed of
@@ -86,12 +89,18 @@ fn main() -> ExitCode {
         println!("{HELP}");
         return if words == ["--help"] { ExitCode::SUCCESS } else { ExitCode::from(2) };
     };
-    // One case is compared without the files.
-    let with_files = plan.checkpoints || plan.only.is_none();
-    if with_files && !checkpoints::compare(&plan) {
+    // One case is compared without what comes before the cases.
+    let whole = plan.only.is_none();
+    if (plan.checkpoints || whole) && !checkpoints::compare(&plan) {
         return ExitCode::FAILURE;
     }
-    if plan.checkpoints { ExitCode::SUCCESS } else { made_up(&plan) }
+    if plan.checkpoints {
+        return ExitCode::SUCCESS;
+    }
+    if whole && !lookups::compare() {
+        return ExitCode::FAILURE;
+    }
+    made_up(&plan)
 }
 
 /// Compares the made-up cases of a plan.

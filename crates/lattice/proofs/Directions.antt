@@ -1,28 +1,26 @@
--- The lookup of a direction: what it passes, what it finds, and that number 11 is given exactly when no row of E is the pair.
+-- The lookup of a direction: what it finds, and that number 11 is given exactly when no row of E is the pair.
 use mathlib.Core.Path.{_≡_, refl, sym, ap, _∙_, subst}
 use mathlib.Core.Bool.{Bool, true, false, cond, _&&_}
-use Prim.Native.Nat.{ℕ, zero, suc, _+_, _-_, _≤_, _<_}
-use native.Mathlib.Numerals.{add-one}
+use Prim.Native.Nat.{ℕ, zero, suc, _+_, _≤_, _<_}
 use native.Mathlib.Omega.{arith}
 use lib.Dec.{T, eqb, eqb-refl}
 use lib.IntN.{ℤ, pos, negsuc}
 use lib.Ieee.Bits.{is-true}
 use borrow.Author.Tests.{eqb-true, eqb-false}
 use Rattle.lattice.specs.declared.Found.{Found}
-use Rattle.lattice.specs.declared.Axis.{Axis}
 use Rattle.lattice.specs.declared.Axis.the-variants.{X, Y}
 use Rattle.lattice.specs.Lattice.{E}
 use Rattle.lattice.specs.Lookup.{sameℤ, isRow, lookup, dirIndexOf}
 
 -- ---- the test of a row
 
-pub same-is : (a b : ℤ) → sameℤ a b ≡ true → a ≡ b
+same-is : (a b : ℤ) → sameℤ a b ≡ true → a ≡ b
 same-is (pos m) (pos n) e = ap pos (eqb-true m n e)
 same-is (pos m) (negsuc n) e = absurd (subst T (sym e) tt)
 same-is (negsuc m) (pos n) e = absurd (subst T (sym e) tt)
 same-is (negsuc m) (negsuc n) e = ap negsuc (eqb-true m n e)
 
-pub same-self : (a : ℤ) → sameℤ a a ≡ true
+same-self : (a : ℤ) → sameℤ a a ≡ true
 same-self (pos m) = is-true (eqb m m) (eqb-refl m)
 same-self (negsuc m) = is-true (eqb m m) (eqb-refl m)
 
@@ -31,7 +29,7 @@ pub record Row (i : ℕ) (a b : ℤ) : Type 0 where
   pub along-x : E i X ≡ a
   pub along-y : E i Y ≡ b
 
-row-is : (i : ℕ) (a b : ℤ) → isRow i a b ≡ true → Row i a b
+pub row-is : (i : ℕ) (a b : ℤ) → isRow i a b ≡ true → Row i a b
 unfolding isRow
 row-is i a b e = both (sameℤ (E i X) a) (sameℤ (E i Y) b) refl refl e
   where
@@ -43,23 +41,6 @@ row-is i a b e = both (sameℤ (E i X) a) (sameℤ (E i Y) b) refl refl e
 is-row : (i : ℕ) (a b : ℤ) → Row i a b → isRow i a b ≡ true
 unfolding isRow
 is-row i a b r = rw (r .along-x, r .along-y, same-self a, same-self b)
-
--- ---- the search
-
--- a row that is not the pair is passed
-pub passed : (i : ℕ) (a b : ℤ) → i < 9 → isRow i a b ≡ false → lookup i (9 - i) a b ≡ lookup (i + 1) (9 - (i + 1)) a b
-unfolding lookup
-passed i a b h e = let n : 9 - i ≡ suc (9 - (i + 1)) = omega arith in rw (n, e, add-one i)
-
--- a row that is the pair is found
-pub found-here : (i : ℕ) (a b : ℤ) → i < 9 → isRow i a b ≡ true → _≡_ {A = Found} (record { number = 0; direction = i }) (lookup i (9 - i) a b)
-unfolding lookup
-found-here i a b h e = let n : 9 - i ≡ suc (9 - (i + 1)) = omega arith in rw (n, e)
-
--- no row is left
-pub none-left : (i : ℕ) (a b : ℤ) → 9 ≤ i → _≡_ {A = Found} (record { number = 11; direction = 0 }) (lookup i (9 - i) a b)
-unfolding lookup
-none-left i a b h = let n : 9 - i ≡ 0 = omega arith in rw n
 
 -- ---- number 11
 

@@ -11,7 +11,7 @@ ghost use lib.Ieee.{binary64, ofInt};
 ghost use Rattle.number.specs.Number.{_⊕_, _⊗_};
 ghost use Rattle.lattice.specs.Lattice as Lattice;
 ghost use Rattle.lattice.specs.Lattice.{ex, ey, W, OPP, basisFloats, normFloats};
-ghost use Rattle.lattice.specs.Lookup.{isRow, dirIndexOf, mirror};
+ghost use Rattle.lattice.specs.Lookup.{dirIndexOf, mirror};
 ghost use Rattle.lattice.specs.Sides as Sides;
 ghost use Rattle.lattice.specs.Sides.{normal, tangent, frameOf};
 
@@ -38,6 +38,10 @@ pub const E: [[i32; 2]; 9] = [
     [-1, -1],
     [1, -1],
 ];
+
+// The directions by their components: the picture above as one number, a hexadecimal digit a direction. A shift reads it, where
+// an array would be built anew at every read.
+const PICTURE: usize = 0x625_301_748;
 
 // The weights, each one division.
 pub const W: [f64; 9] = [
@@ -129,30 +133,26 @@ pub struct Found {
     pub direction: usize,
 }
 
-fn is_row(i: usize, ex: i32, ey: i32) -> bool
-    requires { ⌜ i < 9 ⌝ }
-    ensures { λ r. ⌜ r ≡ isRow i ex ey ⌝ }
-{
-    (E[i][0] == ex) & (E[i][1] == ey)
-}
-
 // The direction whose components are (ex, ey), for any two numbers.
 pub fn dir_index(ex: i32, ey: i32) -> Found
     ensures { λ r. ⌜ r ≡ dirIndexOf ex ey ⌝ }
 {
-    let mut i = 0;
-    while i < 9 {
-        if is_row(i, ex, ey) {
-            return Found {
-                number: 0,
-                direction: i,
-            };
-        }
-        i += 1;
+    let x_outside = (ex < -1) | (1 < ex);
+    let y_outside = (ey < -1) | (1 < ey);
+    if x_outside | y_outside {
+        return Found {
+            number: 11,
+            direction: 0,
+        };
     }
+    // Digits count from the last one on, and so places from the picture's lower right corner.
+    let row = (ey + 1) as usize;
+    let column = (1 - ex) as usize;
+    let place = 3 * row + column;
+    let direction = (PICTURE >> (4 * place)) & 15;
     Found {
-        number: 11,
-        direction: 0,
+        number: 0,
+        direction,
     }
 }
 
