@@ -1,4 +1,5 @@
 pub mod Tables
 pub mod Directions
+pub mod Lookups
 pub mod One
 pub mod Frames

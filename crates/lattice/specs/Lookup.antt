@@ -1,7 +1,8 @@
 -- The lookup of a direction by its two components, and the mirror.
+use mathlib.Core.Path.{_≡_}
 use mathlib.Core.Bool.{Bool, true, false, cond, _&&_}
 use mathlib.Core.List.{List, [], _∷_}
-use Prim.Native.Nat.{ℕ, zero, suc}
+use Prim.Native.Nat.{ℕ, zero, suc, _<_}
 use lib.Dec.{eqb}
 use lib.ListN.{getD}
 use lib.IntN.{ℤ, pos, negsuc, negℤ}
@@ -29,7 +30,19 @@ lookup i (suc n) a b = cond (isRow i a b) (record { number = 0; direction = i })
 abbrev pub dirIndexOf : ℤ → ℤ → Found
 dirIndexOf a b = lookup 0 9 a b
 
--- the direction with the component along an axis negated
+-- (a, b) is a row of E: the components of a direction
+pub record Direction (a b : ℤ) : Type 0 where
+  pub index : ℕ
+  pub small : index < 9
+  pub along-x : E index X ≡ a
+  pub along-y : E index Y ≡ b
+
+-- the components of direction i, the one along an axis negated; and the direction that has them
+abbrev pub mirrored : Axis → ℕ → Axis → ℤ
+mirrored X i X = negℤ (E i X)
+mirrored X i Y = E i Y
+mirrored Y i X = E i X
+mirrored Y i Y = negℤ (E i Y)
+
 unfoldable pub mirror : Axis → ℕ → ℕ
-mirror X i = dirIndexOf (negℤ (E i X)) (E i Y) .direction
-mirror Y i = dirIndexOf (E i X) (negℤ (E i Y)) .direction
+mirror a i = dirIndexOf (mirrored a i X) (mirrored a i Y) .direction
