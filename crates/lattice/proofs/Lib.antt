@@ -1,5 +1,3 @@
 pub mod Tables
-pub mod Directions
 pub mod Lookups
-pub mod One
 pub mod Frames

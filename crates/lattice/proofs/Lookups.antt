@@ -1,4 +1,4 @@
--- NO LOOKUP MISSES: whatever is looked up for a face, or for a mirrored direction, is a row of E.
+-- The lookup of a direction: what it finds, and that whatever is looked up, for a face or for a mirrored direction, is a row of E.
 use mathlib.Core.Path.{_≡_, refl, ap}
 use mathlib.Core.Bool.{Bool, true, false}
 use mathlib.Core.List.{List, [], _∷_, map}
@@ -16,6 +16,16 @@ use Rattle.lattice.specs.declared.Side.the-variants.{Min, Max}
 use Rattle.lattice.specs.Lattice.{directions, E}
 use Rattle.lattice.specs.Lookup.{isRow, lookup, dirIndexOf, Direction, mirrored}
 use Rattle.lattice.specs.Sides.{normal, tangent}
+
+-- the lookup of a direction's components finds that direction
+finds-table : nine (λ i. dirIndexOf (E i X) (E i Y)) ≡ nine (λ i. i)
+unfolding directions lookup isRow
+finds-table = refl
+
+pub finds : (i : ℕ) → i < 9 → dirIndexOf (E i X) (E i Y) ≡ i
+finds = all-nine (λ i. dirIndexOf (E i X) (E i Y)) (λ i. i) finds-table
+
+-- ---- NO LOOKUP MISSES
 
 -- what is looked up for the face on a side of an axis, with n its inward normal and t its tangent: n, t, -t, n + t and n - t; and
 -- for direction i, mirrored along the axis
@@ -35,7 +45,7 @@ asked a s i =
 
 -- what the lookup of a vector finds: whether it is a direction, and its components; and what it must find
 abbrev found : (Axis → ℤ) → Bool × ℤ × ℤ
-found g = let i = dirIndexOf (g X) (g Y) .direction in (ltb i 9, E i X, E i Y)
+found g = let i = dirIndexOf (g X) (g Y) in (ltb i 9, E i X, E i Y)
 
 abbrev itself : (Axis → ℤ) → Bool × ℤ × ℤ
 itself g = (true, g X, g Y)
@@ -57,7 +67,7 @@ found-table = refl
 
 direction : (g : Axis → ℤ) → found g ≡ itself g → Direction (g X) (g Y)
 direction g e = record {
-  index = dirIndexOf (g X) (g Y) .direction;
+  index = dirIndexOf (g X) (g Y);
   small = ltb-true _ 9 (ap (λ (f : Bool × ℤ × ℤ). f .0) e);
   along-x = ap (λ (f : Bool × ℤ × ℤ). f .1) e;
   along-y = ap (λ (f : Bool × ℤ × ℤ). f .2) e;

@@ -6,7 +6,6 @@ use Prim.Native.Nat.{ℕ, zero, suc, _<_}
 use lib.Dec.{eqb}
 use lib.ListN.{getD}
 use lib.IntN.{ℤ, pos, negsuc, negℤ}
-use Rattle.lattice.specs.declared.Found.{Found}
 use Rattle.lattice.specs.declared.Axis.{Axis}
 use Rattle.lattice.specs.declared.Axis.the-variants.{X, Y}
 use Rattle.lattice.specs.Lattice.{directions, E}
@@ -21,14 +20,14 @@ sameℤ (negsuc m) (negsuc n) = eqb m n
 unfoldable pub isRow : ℕ → ℤ → ℤ → Bool
 isRow i a b = sameℤ (E i X) a && sameℤ (E i Y) b
 
--- the first of the n directions from i on whose row is (a, b); number 11 and zero where there is none
-unfoldable pub lookup : ℕ → ℕ → ℤ → ℤ → Found
-lookup i zero a b = record { number = 11; direction = 0 }
-lookup i (suc n) a b = cond (isRow i a b) (record { number = 0; direction = i }) (lookup (suc i) n a b)
+-- the first direction from i on whose row is (a, b); of the n + 1 that are left the last needs no test
+unfoldable pub lookup : ℕ → ℕ → ℤ → ℤ → ℕ
+lookup i zero a b = i
+lookup i (suc n) a b = cond (isRow i a b) i (lookup (suc i) n a b)
 
--- the direction whose row of E is (a, b), with number 0; number 11 and zero where no row is
-abbrev pub dirIndexOf : ℤ → ℤ → Found
-dirIndexOf a b = lookup 0 9 a b
+-- the direction whose row of E is (a, b), where (a, b) is one
+abbrev pub dirIndexOf : ℤ → ℤ → ℕ
+dirIndexOf a b = lookup 0 8 a b
 
 -- (a, b) is a row of E: the components of a direction
 pub record Direction (a b : ℤ) : Type 0 where
@@ -45,4 +44,4 @@ mirrored Y i X = E i X
 mirrored Y i Y = negℤ (E i Y)
 
 unfoldable pub mirror : Axis → ℕ → ℕ
-mirror a i = dirIndexOf (mirrored a i X) (mirrored a i Y) .direction
+mirror a i = dirIndexOf (mirrored a i X) (mirrored a i Y)
