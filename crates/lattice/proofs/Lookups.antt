@@ -67,7 +67,7 @@ found-table = refl
 
 direction : (g : Axis → ℤ) → found g ≡ itself g → Direction (g X) (g Y)
 direction g e = record {
-  index = dirIndexOf (g X) (g Y);
+  i = dirIndexOf (g X) (g Y);
   small = ltb-true _ 9 (ap (λ (f : Bool × ℤ × ℤ). f .0) e);
   along-x = ap (λ (f : Bool × ℤ × ℤ). f .1) e;
   along-y = ap (λ (f : Bool × ℤ × ℤ). f .2) e;
@@ -87,5 +87,6 @@ no-miss a s i h = record {
     table =
         all-nine (λ i. map found (asked a s i)) (λ i. map itself (asked a s i))
         (all-four (λ a s. nine (λ i. map found (asked a s i))) (λ a s. nine (λ i. map itself (asked a s i))) found-table a s) i h
+
     at : (k : ℕ) → getD (map found (asked a s i)) k (false, pos 0, pos 0) ≡ getD (map itself (asked a s i)) k (false, pos 0, pos 0)
     at k = ap (λ (l : List (Bool × ℤ × ℤ)). getD l k (false, pos 0, pos 0)) table

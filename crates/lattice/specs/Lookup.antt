@@ -1,14 +1,12 @@
 -- The lookup of a direction by its two components, and the mirror.
 use mathlib.Core.Path.{_≡_}
-use mathlib.Core.Bool.{Bool, true, false, cond, _&&_}
-use mathlib.Core.List.{List, [], _∷_}
+use mathlib.Core.Bool.{Bool, false, cond, _&&_}
 use Prim.Native.Nat.{ℕ, zero, suc, _<_}
 use lib.Dec.{eqb}
-use lib.ListN.{getD}
 use lib.IntN.{ℤ, pos, negsuc, negℤ}
 use Rattle.lattice.specs.declared.Axis.{Axis}
 use Rattle.lattice.specs.declared.Axis.the-variants.{X, Y}
-use Rattle.lattice.specs.Lattice.{directions, E}
+use Rattle.lattice.specs.Lattice.{E}
 
 abbrev pub sameℤ : ℤ → ℤ → Bool
 sameℤ (pos m) (pos n) = eqb m n
@@ -31,10 +29,10 @@ dirIndexOf a b = lookup 0 8 a b
 
 -- (a, b) is a row of E: the components of a direction
 pub record Direction (a b : ℤ) : Type 0 where
-  pub index : ℕ
-  pub small : index < 9
-  pub along-x : E index X ≡ a
-  pub along-y : E index Y ≡ b
+  pub i : ℕ
+  pub small : i < 9
+  pub along-x : E i X ≡ a
+  pub along-y : E i Y ≡ b
 
 -- the components of direction i, the one along an axis negated; and the direction that has them
 abbrev pub mirrored : Axis → ℕ → Axis → ℤ

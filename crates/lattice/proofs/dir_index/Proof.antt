@@ -1,5 +1,5 @@
 -- `lattice::dir_index` meets its contract: what it takes is a row of E, so each fact is one test of the nine rows.
-use mathlib.Core.Path.{_≡_, refl, sym, subst}
+use mathlib.Core.Path.{_≡_, refl, subst}
 use mathlib.Core.Bool.{Bool, true}
 use mathlib.Core.List.{List, [], _∷_}
 use Prim.Native.Nat.{ℕ, _+_, _*_, _/_, _^_, _<_}
@@ -54,7 +54,7 @@ placed-table = refl
 
 in-place : (a b : ℤ) → Direction a b → Placed (row b) × Placed (column a)
 in-place a b d =
-    let r = all-nine (λ k. asked (row (E k Y)) ∷ asked (column (E k X)) ∷ []) (λ k. passed ∷ passed ∷ []) placed-table (d .index) (d .small) in
+    let r = all-nine (λ k. asked (row (E k Y)) ∷ asked (column (E k X)) ∷ []) (λ k. passed ∷ passed ∷ []) placed-table (d .i) (d .small) in
     rw (← d .along-x, ← d .along-y) (placed _ (cc), placed _ (cc))
 
 -- what the code reads out of a table of hexadecimal digits
@@ -68,7 +68,7 @@ Right t = nine (λ k. read t (E k X) (E k Y)) ≡ nine (λ k. dirIndexOf (E k X)
 found : (t : ℕ) → Right t → (a b : ℤ) → Direction a b → read t a b ≡ dirIndexOf a b
 found t e a b d =
     rw (← d .along-x, ← d .along-y)
-    (all-nine (λ k. read t (E k X) (E k Y)) (λ k. dirIndexOf (E k X) (E k Y)) e (d .index) (d .small))
+    (all-nine (λ k. read t (E k X) (E k Y)) (λ k. dirIndexOf (E k X) (E k Y)) e (d .i) (d .small))
 
 -- ---- the needs
 

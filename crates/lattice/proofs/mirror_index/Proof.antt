@@ -1,6 +1,6 @@
 -- `lattice::mirror_index` meets its contract: over the whole table, the i32 that are looked up are the mirrored components, which no
 -- lookup misses.
-use mathlib.Core.Path.{_≡_, refl, _∙_}
+use mathlib.Core.Path.{_≡_, refl}
 use mathlib.Core.Bool.{true}
 use Prim.Native.Nat.{ℕ, _^_, _<_}
 use lib.Dec.{ltb}
