@@ -63,6 +63,7 @@ struct Tally {
     cases: u64,
     entries: u64,
     by_operation: [u64; OPERATIONS.len()],
+    /// Those answered with each number, 0 to 10.
     by_number: [u64; 11],
 }
 
