@@ -13,13 +13,12 @@
  *    8  the reverse on faces that are not lossless
  *    9  steady run: a snapshot has a density or a velocity component that is not finite
  *   10  the tolerance is NaN, or there are more than 1,000,000 steps
- *   11  the direction lookup is given two components that are no row of E
  *   12  a file has fewer than five bytes, so no version
  *   13  a file's version is not 1
  *   14  a file is cut short before the end of its sides
  *   15  a file's count, or its actual length, is wrong
  *
- * They are tested in the order 1, 2, 3, 4, 5, 10, 6, 7, 8, 11, and of a file that is read in the order 12, 13, 14, 1, 15, 2;
+ * They are tested in the order 1, 2, 3, 4, 5, 10, 6, 7, 8, and of a file that is read in the order 12, 13, 14, 1, 15, 2;
  * the first that applies is answered. Each function below lists the ones that it tests; no other is answered. A refused call
  * (any number but 0, and 9 apart) writes to no lent buffer, and leaves zeros in its small answer array, which every call writes.
  *
@@ -164,10 +163,6 @@ uint32_t brothwagon_checkpoint_sides(const uint8_t *file, size_t file_length, ui
 /* Reads a checkpoint file into f, which has 9 nx ny entries by the file's sides: answer is {nx, ny, step}.
  * Numbers 12, 13, 14, 1, 15, 2; then f is as it was and answer is {0, 0, 0}. */
 uint32_t brothwagon_read_checkpoint(const uint8_t *file, size_t file_length, double *f, size_t f_length, uint64_t answer[3]);
-
-/* The direction with these two components.
- * Number 11; then direction is 0. */
-uint32_t brothwagon_dir_index(int32_t ex, int32_t ey, uint64_t direction[1]);
 
 #ifdef __cplusplus
 }

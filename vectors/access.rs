@@ -13,8 +13,4 @@ impl LatticeBoltzmann2D {
         self.stream();
         self.apply_boundaries();
     }
-
-    pub fn direction(ex: i32, ey: i32) -> usize {
-        dir_index(ex, ey)
-    }
 }

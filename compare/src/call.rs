@@ -34,10 +34,6 @@ pub fn call(case: &Case, lent: &mut Lent) -> Answer {
                 ffi::run_to_steady_state(s, case.tolerance, *steps, case.check_every, f, post, u);
             Answer { number, words: [settled, taken, residual, 0] }
         }
-        Operation::DirIndex => {
-            let (number, direction) = ffi::dir_index(case.ex, case.ey);
-            Answer { number, words: [direction, 0, 0, 0] }
-        }
     }
 }
 

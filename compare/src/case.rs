@@ -20,10 +20,9 @@ pub enum Operation {
     Step,
     Run,
     RunToSteadyState,
-    DirIndex,
 }
 
-pub const OPERATIONS: [Operation; 14] = [
+pub const OPERATIONS: [Operation; 13] = [
     Operation::Initialize,
     Operation::Density,
     Operation::Velocity,
@@ -37,7 +36,6 @@ pub const OPERATIONS: [Operation; 14] = [
     Operation::Step,
     Operation::Run,
     Operation::RunToSteadyState,
-    Operation::DirIndex,
 ];
 
 /// The lent buffers.
@@ -61,7 +59,7 @@ impl Operation {
             Operation::VelocityField => &[F, U],
             Operation::StreamWithFaces | Operation::Reverse | Operation::Step | Operation::Run => &[F, POST],
             Operation::RunToSteadyState => &[F, POST, U],
-            Operation::Lossless | Operation::DirIndex => &[],
+            Operation::Lossless => &[],
             _ => &[F],
         }
     }
@@ -128,8 +126,6 @@ pub struct Case {
     pub steps: u64,
     pub check_every: u64,
     pub tolerance: f64,
-    pub ex: i32,
-    pub ey: i32,
 }
 
 impl Case {
@@ -227,7 +223,6 @@ impl Case {
             Operation::RunToSteadyState => {
                 format!("\n  steps {}, check every {}, tolerance {:?}", self.steps, self.check_every, self.tolerance)
             }
-            Operation::DirIndex => format!("\n  components {} and {}", self.ex, self.ey),
             _ => String::new(),
         }
     }

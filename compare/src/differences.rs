@@ -20,7 +20,7 @@ const MINUS_INFINITY: f64 = f64::NEG_INFINITY;
 pub fn show() -> ExitCode {
     // A panic of the Rust is an answer here.
     panic::set_hook(Box::new(|_| ()));
-    let rows: Vec<Row> = [lookups(), sums(), steady_runs(), places(), refusals()].into_iter().flatten().collect();
+    let rows: Vec<Row> = [sums(), steady_runs(), places(), refusals()].into_iter().flatten().collect();
     let mut wrong = 0;
     for row in &rows {
         println!("{}\n  the Rust: {}\n  the port: {}", row.asked, row.rust.1, row.port.1);
@@ -58,15 +58,6 @@ fn on(settings: &Settings, f: &[f64]) -> Box<dyn Solver> {
 
 fn only(population: f64) -> [f64; 9] {
     [population, 0.0, 0.0, 0.0, 0.0, 0.0, 0.0, 0.0, 0.0]
-}
-
-fn lookups() -> Vec<Row> {
-    let (refused, direction) = ffi::dir_index(2, 0);
-    vec![row(
-        "dir_index(2, 0)",
-        ("panics", answers(|| source::dir_index(2, 0))),
-        ("number 11, 0", format!("number {refused}, {direction}")),
-    )]
 }
 
 fn sums() -> Vec<Row> {

@@ -89,7 +89,6 @@ fn done(case: &Case, lent: &mut Lent, listed: &mut Listed) -> Answer {
         Operation::Step => ask(case, f, post, |rust| advance(case, rust, 1, listed)),
         Operation::Run => ask(case, f, post, |rust| advance(case, rust, steps, listed)),
         Operation::RunToSteadyState => return ask(case, f, post, |rust| steady(case, rust, u, listed)),
-        Operation::DirIndex => words[0] = source::dir_index(case.ex, case.ey) as u64,
     }
     Answer { number: 0, words }
 }

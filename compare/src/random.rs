@@ -71,13 +71,13 @@ fn large(made: &mut Made, turn: u64) -> Case {
 /// Mostly small: a reading of one cell needs no more.
 fn sides(made: &mut Made, operation: Operation) -> (u64, u64) {
     let most = match operation {
-        Operation::Density | Operation::Velocity | Operation::Plane | Operation::DirIndex => 6,
+        Operation::Density | Operation::Velocity | Operation::Plane => 6,
         _ => made.pick(&[4, 4, 8, 16, 32, 64, 64]),
     };
     (1 + made.below(most), 1 + made.below(most))
 }
 
-/// A case that none but the numbers 7, 8, 9 and 11 can refuse.
+/// A case that none but the numbers 7, 8 and 9 can refuse.
 fn good(made: &mut Made, operation: Operation, (nx, ny): (u64, u64)) -> Case {
     let copying = matches!(operation, Operation::Lossless | Operation::Reverse) && !made.one_in(16);
     let nu = viscosity(made);
@@ -97,8 +97,6 @@ fn good(made: &mut Made, operation: Operation, (nx, ny): (u64, u64)) -> Case {
         steps: steps(made, nx * ny),
         check_every: made.pick(&[0, 1, 1, 2, 3, 5, 1000, u64::MAX]),
         tolerance: made.pick(&[0.0, 1e-3, 1e-2, 0.1, 1.0, f64::INFINITY, -1.0, 1e-300]),
-        ex: component(made),
-        ey: component(made),
     }
 }
 
@@ -180,16 +178,6 @@ fn steps(made: &mut Made, cells: u64) -> u64 {
     let work = if made.one_in(64) { 400_000 } else { 30_000 };
     let most = made.pick(&[2, 4, 16, 64, 1024]);
     made.below(most.min(2 + work / cells))
-}
-
-/// A direction's component, or one that some narrower number would take for it, or any.
-fn component(made: &mut Made) -> i32 {
-    let component = made.below(3) as i32 - 1;
-    match made.below(8) {
-        0 => component.wrapping_add(1 << made.below(32)),
-        1 => made.next() as i32,
-        _ => component,
-    }
 }
 
 /// Each makes one thing of a case wrong. What the operation does not take must not matter.

@@ -4,7 +4,7 @@ use crate::case::{Case, Operation};
 use brothwagon::ffi::{Face, Settings};
 
 /// The order in which the numbers are tested.
-const ORDER: [u32; 10] = [1, 2, 3, 4, 5, 10, 6, 7, 8, 11];
+const ORDER: [u32; 9] = [1, 2, 3, 4, 5, 10, 6, 7, 8];
 
 /// The most steps of one run.
 pub const MOST_STEPS: u64 = 1_000_000;
@@ -27,7 +27,6 @@ fn tested(operation: Operation) -> &'static [u32] {
         Operation::Reverse => &[1, 2, 5, 7, 8],
         Operation::Step => &[1, 2, 3, 4, 5],
         Operation::Run | Operation::RunToSteadyState => &[1, 2, 3, 4, 5, 10],
-        Operation::DirIndex => &[11],
     }
 }
 
@@ -51,8 +50,6 @@ fn applies(number: u32, case: &Case) -> bool {
         },
         7 => case.faces().iter().any(|face| ![0, 1, 3].contains(&face.kind)),
         8 => lossy(case),
-        // All nine pairs of components in -1..=1 are rows of E, and there are no others.
-        11 => !(-1..=1).contains(&case.ex) || !(-1..=1).contains(&case.ey),
         _ => unreachable!("no test has the number {number}"),
     }
 }

@@ -49,7 +49,6 @@ fn simpler(case: &Case) -> Vec<Case> {
     with(&|case| case.extra = [0; 4]);
     with(&|case| (case.x, case.y) = (0, 0));
     with(&|case| case.direction = 0);
-    with(&|case| (case.ex, case.ey) = (0, 0));
     with(&|case| case.check_every = 1);
     with(&|case| case.tolerance = 0.0);
     tries

@@ -38,11 +38,6 @@ pub fn solver(settings: &ffi::Settings, magic: Option<f64>, f: Vec<f64>, post: V
     }
 }
 
-/// The Rust's `dir_index`, which panics where there is none.
-pub fn dir_index(ex: i32, ey: i32) -> usize {
-    d2q9::LatticeBoltzmann2D::direction(ex, ey)
-}
-
 /// The faces as the Rust has them.
 pub fn faces(settings: &ffi::Settings) -> Boundaries<2> {
     Boundaries { faces: [[face(settings.x_min), face(settings.x_max)], [face(settings.y_min), face(settings.y_max)]] }

@@ -40,8 +40,6 @@ use Rattle.brothwagon.proofs.brothwagon_checkpoint_sides
 use Rattle.brothwagon.proofs.brothwagon_checkpoint_sides.Reads as checkpoint-sides-reads
 use Rattle.brothwagon.proofs.brothwagon_read_checkpoint
 use Rattle.brothwagon.proofs.brothwagon_read_checkpoint.Reads as read-checkpoint-reads
-use Rattle.brothwagon.proofs.brothwagon_dir_index
-use Rattle.brothwagon.proofs.brothwagon_dir_index.Reads as dir-index-reads
 
 -- ---- the number, and a buffer
 
@@ -84,10 +82,6 @@ lossless-one κs a r q s t p p' = both (p ∙ sym p')
 pub reverse-one : (κs : Lfts 3) (a : ArgsD brothwagon_reverse.signature κs) (r q : ℕ) (s t : AtExit brothwagon_reverse.ended κs)
     → reverse-reads.Post κs a r s → reverse-reads.Post κs a q t → (r ≡ q) × (now (s .1 .1 .0) ≡ now (t .1 .1 .0))
 reverse-one κs a r q s t p p' = both (p ∙ sym p')
-
-pub dir-index-one : (κs : Lfts 1) (a : ArgsD brothwagon_dir_index.signature κs) (r q : ℕ) (s t : AtExit brothwagon_dir_index.ended κs)
-    → dir-index-reads.Post κs a r s → dir-index-reads.Post κs a q t → (r ≡ q) × (now (s .1 .1 .0) ≡ now (t .1 .1 .0))
-dir-index-one κs a r q s t p p' = both (p ∙ sym p')
 
 pub write-checkpoint-one : (κs : Lfts 3) (a : ArgsD brothwagon_write_checkpoint.signature κs) (r q : ℕ) (s t : AtExit brothwagon_write_checkpoint.ended κs)
     → write-checkpoint-reads.Post κs a r s → write-checkpoint-reads.Post κs a q t → (r ≡ q) × (now (s .1 .1 .1 .0) ≡ now (t .1 .1 .1 .0))

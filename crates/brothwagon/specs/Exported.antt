@@ -4,7 +4,6 @@ use mathlib.Core.List.{List, [], _∷_}
 use Prim.Native.Nat.{ℕ}
 use lib.ListN.{length}
 use Rattle.number.specs.Number.{patternOf}
-use Rattle.lattice.specs.declared.Found.{Found}
 use Rattle.settings.specs.declared.Settings.{Settings}
 use Rattle.settings.specs.Refusals as Call
 use Rattle.settings.specs.Refusals.{refusal}
@@ -34,9 +33,6 @@ planeTold s f i = record {
 
 abbrev pub losslessTold : Reply → Written
 losslessTold r = record { number = r .number; buffer = r .values }
-
-abbrev pub directionTold : Found → Written
-directionTold r = record { number = r .number; buffer = r .direction ∷ [] }
 
 abbrev pub storedTold : Stored → Written
 storedTold r = record { number = r .number; buffer = r .nx ∷ r .ny ∷ r .step ∷ [] }

@@ -4,7 +4,6 @@ use checkpoint::Stored;
 use lossless::Answer;
 use runs::Steady;
 ghost use mathlib.Core.Path.{_≡_};
-ghost use Rattle.lattice.specs.Lookup.{dirIndexOf};
 ghost use Rattle.settings.specs.Outcome.{outcome};
 ghost use Rattle.streaming.specs.Streaming.{streamedWithFaces};
 ghost use Rattle.lossless.specs.Lossless.{reply, losslessOf, reversedOf};
@@ -13,7 +12,7 @@ ghost use Rattle.runs.specs.Steps.{left, stepOf, runOf};
 ghost use Rattle.runs.specs.Steady.{steadyOf};
 ghost use Rattle.checkpoint.specs.Checkpoint.{checkpointWritten, checkpointSides, checkpointRead};
 ghost use Rattle.host.specs.Host.{settingsOf};
-ghost use Rattle.brothwagon.specs.Exported.{readingTold, velocityTold, planeTold, losslessTold, directionTold, steadyLeft, steadyTold, storedTold, readLeft, readTold};
+ghost use Rattle.brothwagon.specs.Exported.{readingTold, velocityTold, planeTold, losslessTold, steadyLeft, steadyTold, storedTold, readLeft, readTold};
 
 // ---- the start and the readings
 
@@ -240,15 +239,4 @@ pub extern "C" fn brothwagon_read_checkpoint(
     let a = checkpoint::read_checkpoint(file, f);
     *answer = told(a);
     a.number
-}
-
-// ---- the lattice
-
-#[no_mangle]
-pub extern "C" fn brothwagon_dir_index(ex: i32, ey: i32, direction: &mut [u64; 1]) -> u32
-    ensures { λ r. ⌜ outcome r (now (direction .exit)) ≡ directionTold (dirIndexOf ex ey) ⌝ }
-{
-    let found = lattice::dir_index(ex, ey);
-    *direction = [found.direction as u64];
-    found.number
 }

@@ -1,4 +1,3 @@
 pub mod Tables
-pub mod Directions
-pub mod One
+pub mod Lookups
 pub mod Frames

@@ -1,14 +1,12 @@
 -- The lookup of a direction by its two components, and the mirror.
-use mathlib.Core.Bool.{Bool, true, false, cond, _&&_}
-use mathlib.Core.List.{List, [], _∷_}
-use Prim.Native.Nat.{ℕ, zero, suc}
+use mathlib.Core.Path.{_≡_}
+use mathlib.Core.Bool.{Bool, false, cond, _&&_}
+use Prim.Native.Nat.{ℕ, zero, suc, _<_}
 use lib.Dec.{eqb}
-use lib.ListN.{getD}
 use lib.IntN.{ℤ, pos, negsuc, negℤ}
-use Rattle.lattice.specs.declared.Found.{Found}
 use Rattle.lattice.specs.declared.Axis.{Axis}
 use Rattle.lattice.specs.declared.Axis.the-variants.{X, Y}
-use Rattle.lattice.specs.Lattice.{directions, E}
+use Rattle.lattice.specs.Lattice.{E}
 
 abbrev pub sameℤ : ℤ → ℤ → Bool
 sameℤ (pos m) (pos n) = eqb m n
@@ -20,16 +18,28 @@ sameℤ (negsuc m) (negsuc n) = eqb m n
 unfoldable pub isRow : ℕ → ℤ → ℤ → Bool
 isRow i a b = sameℤ (E i X) a && sameℤ (E i Y) b
 
--- the first of the n directions from i on whose row is (a, b); number 11 and zero where there is none
-unfoldable pub lookup : ℕ → ℕ → ℤ → ℤ → Found
-lookup i zero a b = record { number = 11; direction = 0 }
-lookup i (suc n) a b = cond (isRow i a b) (record { number = 0; direction = i }) (lookup (suc i) n a b)
+-- the first direction from i on whose row is (a, b); of the n + 1 that are left the last needs no test
+unfoldable pub lookup : ℕ → ℕ → ℤ → ℤ → ℕ
+lookup i zero a b = i
+lookup i (suc n) a b = cond (isRow i a b) i (lookup (suc i) n a b)
 
--- the direction whose row of E is (a, b), with number 0; number 11 and zero where no row is
-abbrev pub dirIndexOf : ℤ → ℤ → Found
-dirIndexOf a b = lookup 0 9 a b
+-- the direction whose row of E is (a, b), where (a, b) is one
+abbrev pub dirIndexOf : ℤ → ℤ → ℕ
+dirIndexOf a b = lookup 0 8 a b
 
--- the direction with the component along an axis negated
+-- (a, b) is a row of E: the components of a direction
+pub record Direction (a b : ℤ) : Type 0 where
+  pub i : ℕ
+  pub small : i < 9
+  pub along-x : E i X ≡ a
+  pub along-y : E i Y ≡ b
+
+-- the components of direction i, the one along an axis negated; and the direction that has them
+abbrev pub mirrored : Axis → ℕ → Axis → ℤ
+mirrored X i X = negℤ (E i X)
+mirrored X i Y = E i Y
+mirrored Y i X = E i X
+mirrored Y i Y = negℤ (E i Y)
+
 unfoldable pub mirror : Axis → ℕ → ℕ
-mirror X i = dirIndexOf (negℤ (E i X)) (E i Y) .direction
-mirror Y i = dirIndexOf (E i X) (negℤ (E i Y)) .direction
+mirror a i = dirIndexOf (mirrored a i X) (mirrored a i Y)

@@ -11,7 +11,7 @@ ghost use lib.Ieee.{binary64, ofInt};
 ghost use Rattle.number.specs.Number.{_⊕_, _⊗_};
 ghost use Rattle.lattice.specs.Lattice as Lattice;
 ghost use Rattle.lattice.specs.Lattice.{ex, ey, W, OPP, basisFloats, normFloats};
-ghost use Rattle.lattice.specs.Lookup.{dirIndexOf, mirror};
+ghost use Rattle.lattice.specs.Lookup.{Direction, dirIndexOf, mirror};
 ghost use Rattle.lattice.specs.Sides as Sides;
 ghost use Rattle.lattice.specs.Sides.{normal, tangent, frameOf};
 
@@ -127,33 +127,16 @@ pub fn norms() -> [f64; 9]
     M_NORM
 }
 
-// What the lookup of a direction answers: number 0 and the direction, or number 11 and zero.
-pub struct Found {
-    pub number: u32,
-    pub direction: usize,
-}
-
-// The direction whose components are (ex, ey), for any two numbers.
-pub fn dir_index(ex: i32, ey: i32) -> Found
+// The direction whose components are (ex, ey). Nothing else is ever looked up, so there is no other answer.
+pub fn dir_index(ex: i32, ey: i32) -> usize
+    requires { ⌜ Direction ex ey ⌝ }
     ensures { λ r. ⌜ r ≡ dirIndexOf ex ey ⌝ }
 {
-    let x_outside = (ex < -1) | (1 < ex);
-    let y_outside = (ey < -1) | (1 < ey);
-    if x_outside | y_outside {
-        return Found {
-            number: 11,
-            direction: 0,
-        };
-    }
     // Digits count from the last one on, and so places from the picture's lower right corner.
     let row = (ey + 1) as usize;
     let column = (1 - ex) as usize;
     let place = 3 * row + column;
-    let direction = (PICTURE >> (4 * place)) & 15;
-    Found {
-        number: 0,
-        direction,
-    }
+    (PICTURE >> (4 * place)) & 15
 }
 
 // The direction with the component along the axis negated.
@@ -163,11 +146,10 @@ pub fn mirror_index(i: usize, axis: Axis) -> usize
 {
     let ex = E[i][0];
     let ey = E[i][1];
-    let found = match axis {
+    match axis {
         Axis::X => dir_index(-ex, ey),
         Axis::Y => dir_index(ex, -ey),
-    };
-    found.direction
+    }
 }
 
 // ---- the faces, by axis and side

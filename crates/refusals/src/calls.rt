@@ -101,10 +101,3 @@ pub fn steady(
         kept(f) & kept(post) & kept(u),
     );
 }
-
-pub fn dir_index(case: &[u8], ex: i32, ey: i32) {
-    let found = lattice::dir_index(ex, ey);
-    show::gives(b"dir_index", case, found.number);
-    show::value(b", direction ", found.direction as u64);
-    show::newline();
-}

@@ -146,12 +146,6 @@ fn losses() {
     reverse(b"x min NoSlip, x max Periodic", unpaired);
 }
 
-// Number 11, and a row of E.
-fn lookups() {
-    calls::dir_index(b"2, 0", 2, 0);
-    calls::dir_index(b"0, -1", 0, -1);
-}
-
 // Where several apply, the first in the order 1, 2, 3, 4, 5, 10, 6.
 fn order() {
     let inwards = x_min(Face::Velocity(1.0, 0.0));
@@ -181,6 +175,5 @@ pub fn all() {
     limits();
     places();
     losses();
-    lookups();
     order();
 }

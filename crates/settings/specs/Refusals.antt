@@ -58,9 +58,9 @@ first (t ∷ rest) later = cond (row t .bad) (row t .number) (first rest later)
 
 -- ---- the order in which the numbers are tested
 
--- 1, 2, 3, 4, 5, 10, 6, 7, 8, 11, and of a file 12, 13, 14, 1, 15, 2: both stand in this one
+-- 1, 2, 3, 4, 5, 10, 6, 7, 8, and of a file 12, 13, 14, 1, 15, 2: both stand in this one
 abbrev pub order : List ℕ
-order = 12 ∷ 13 ∷ 14 ∷ 1 ∷ 15 ∷ 2 ∷ 3 ∷ 4 ∷ 5 ∷ 10 ∷ 6 ∷ 7 ∷ 8 ∷ 11 ∷ []
+order = 12 ∷ 13 ∷ 14 ∷ 1 ∷ 15 ∷ 2 ∷ 3 ∷ 4 ∷ 5 ∷ 10 ∷ 6 ∷ 7 ∷ 8 ∷ []
 
 -- the list from its first test with another number
 abbrev pub past : ℕ → List Test → List Test

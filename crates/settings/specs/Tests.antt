@@ -1,5 +1,5 @@
 -- The tests that refuse a call, in the order in which they are made: each holds exactly where its number is to be given.
--- Number 9 stands with the steady run, and 11 with the direction lookup.
+-- Number 9 stands with the steady run.
 use mathlib.Core.Bool.{Bool, true, false, not, xor, _&&_, _||_}
 use Prim.Native.Nat.{ℕ, _+_, _*_}
 use lib.Dec.{eqb, leb, ltb}

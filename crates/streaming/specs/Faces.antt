@@ -64,7 +64,7 @@ walled u v post x y i = cond (moving u v) (pushed u v post x y i) (post x y (OPP
 
 -- the direction with the components that g has along x and y
 abbrev pub dir : (Axis → ℤ) → ℕ
-dir g = dirIndexOf (g X) (g Y) .direction
+dir g = dirIndexOf (g X) (g Y)
 
 -- the directions n, t, -t, n + t and n - t, with n the inward normal and t the tangent
 unfoldable pub names : Axis → Side → Names

@@ -32,11 +32,11 @@ fn names_of(axis: Axis, side: Side) -> Names
     let t0 = g.t0;
     let t1 = g.t1;
     Names {
-        n: lattice::dir_index(n0, n1).direction,
-        t: lattice::dir_index(t0, t1).direction,
-        tm: lattice::dir_index(-t0, -t1).direction,
-        np: lattice::dir_index(n0 + t0, n1 + t1).direction,
-        nm: lattice::dir_index(n0 - t0, n1 - t1).direction,
+        n: lattice::dir_index(n0, n1),
+        t: lattice::dir_index(t0, t1),
+        tm: lattice::dir_index(-t0, -t1),
+        np: lattice::dir_index(n0 + t0, n1 + t1),
+        nm: lattice::dir_index(n0 - t0, n1 - t1),
     }
 }
 

@@ -89,8 +89,6 @@ static uint32_t read_checkpoint(const Call *c) {
     return brothwagon_read_checkpoint(only_read_file(c), c->length[CHECKPOINT], buffer(F), c->length[F], word_answer());
 }
 
-static uint32_t dir_index(const Call *c) { return brothwagon_dir_index(c->ex, c->ey, word_answer()); }
-
 /* The name; the call; whether f, post, u, table and a file are lent; numbers and words of the answer; what is tested. */
 const Operation INITIALIZE = {"brothwagon_initialize", initialize, {1, 0, 0, 1}, 0, 0, {1, 2, 0}};
 const Operation DENSITY = {"brothwagon_density", density, {1, 0, 0, 0}, 1, 0, {1, 2, 6, 0}};
@@ -111,12 +109,11 @@ const Operation CHECKPOINT_SIDES = {"brothwagon_checkpoint_sides", checkpoint_si
                                     {12, 13, 14, 1, 15, 0}};
 const Operation READ_CHECKPOINT = {"brothwagon_read_checkpoint", read_checkpoint, {1, 0, 0, 0}, 0, 3,
                                    {12, 13, 14, 1, 15, 2, 0}};
-const Operation DIR_INDEX = {"brothwagon_dir_index", dir_index, {0, 0, 0, 0}, 0, 1, {11, 0}};
 
 const Operation *const ALL[OPERATIONS] = {
     &INITIALIZE,        &DENSITY,         &VELOCITY, &VELOCITY_FIELD, &TOTAL_MASS, &KINETIC_ENERGY,      &PLANE,
     &STREAM_WITH_FACES, &LOSSLESS,        &REVERSE,  &STEP,           &RUN,        &RUN_TO_STEADY_STATE, &WRITE_CHECKPOINT,
-    &CHECKPOINT_SIDES,  &READ_CHECKPOINT, &DIR_INDEX};
+    &CHECKPOINT_SIDES,  &READ_CHECKPOINT};
 
 int tests_for(const Operation *operation, uint32_t number) {
     for (const uint32_t *test = operation->tests; *test != 0; test++) {

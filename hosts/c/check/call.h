@@ -19,7 +19,6 @@ typedef struct {
     size_t x, y, direction;
     double tolerance;
     uint64_t steps, check_every;
-    int32_t ex, ey;
     uint32_t step;
     size_t file_at; /* the byte of its buffer at which a file begins */
 } Call;
@@ -33,9 +32,9 @@ typedef struct {
 } Operation;
 
 extern const Operation INITIALIZE, DENSITY, VELOCITY, VELOCITY_FIELD, TOTAL_MASS, KINETIC_ENERGY, PLANE, STREAM_WITH_FACES,
-    LOSSLESS, REVERSE, STEP, RUN, RUN_TO_STEADY_STATE, WRITE_CHECKPOINT, CHECKPOINT_SIDES, READ_CHECKPOINT, DIR_INDEX;
+    LOSSLESS, REVERSE, STEP, RUN, RUN_TO_STEADY_STATE, WRITE_CHECKPOINT, CHECKPOINT_SIDES, READ_CHECKPOINT;
 
-enum { OPERATIONS = 17 };
+enum { OPERATIONS = 16 };
 extern const Operation *const ALL[OPERATIONS];
 
 /* Whether an operation tests a number. */

@@ -96,8 +96,6 @@ uint32_t brothwagon_checkpoint_sides(const uint8_t *file, size_t file_length, ui
 
 uint32_t brothwagon_read_checkpoint(const uint8_t *file, size_t file_length, double *f, size_t f_length, uint64_t answer[3]);
 
-uint32_t brothwagon_dir_index(int32_t ex, int32_t ey, uint64_t direction[1]);
-
 #ifdef __cplusplus
 }
 #endif

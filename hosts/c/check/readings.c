@@ -1,4 +1,4 @@
-/* Initialisation, the readings and the direction lookup. */
+/* Initialisation and the readings. */
 #include "values.h"
 
 static void initialize(void) {
@@ -108,16 +108,6 @@ static void plane(void) {
     }
 }
 
-static void dir_index(void) {
-    for (size_t i = 0; i < DIRECTIONS; i++) {
-        Call call = begin(1, 1, "direction %u", (unsigned)i);
-        call.ex = E[i][0];
-        call.ey = E[i][1];
-        wanted_answer[0] = i;
-        done(&DIR_INDEX, &call);
-    }
-}
-
 void check_readings(void) {
     initialize();
     density();
@@ -126,5 +116,4 @@ void check_readings(void) {
     total_mass();
     kinetic_energy();
     plane();
-    dir_index();
 }

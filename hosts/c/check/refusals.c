@@ -115,15 +115,6 @@ static int lossy_faces(Call *call, size_t k) {
     return k < COUNT(rows);
 }
 
-static int components(Call *call, size_t k) {
-    const int32_t rows[][2] = {{2, 0}, {0, 2}, {-2, 1}, {1, -2}, {257, 0}, {0, 65537}, {INT32_MAX, 0}, {0, INT32_MIN}};
-    if (k < COUNT(rows)) {
-        call->ex = rows[k][0];
-        call->ey = rows[k][1];
-    }
-    return k < COUNT(rows);
-}
-
 /* ---- of the file, which has 445 bytes, the first four a count of 441 */
 
 static int no_version(Call *call, size_t k) {
@@ -193,7 +184,7 @@ static const Fault FAULTS[] = {{1, "the sides", sides},         {2, "the lengths
                                {3, "the rates", rates},         {4, "the force", force},
                                {5, "the faces", face_numbers},  {10, "the steps", steps},
                                {6, "the place", places},        {7, "driven faces", driven_faces},
-                               {8, "lossy faces", lossy_faces}, {11, "the components", components}};
+                               {8, "lossy faces", lossy_faces}};
 
 static const Fault FILE_FAULTS[] = {{12, "a file's first bytes", no_version},        {13, "its version", version},
                                     {14, "the bytes of its sides", sides_cut_short}, {1, "its sides", sides_of_file},

@@ -9,7 +9,6 @@
 
 enum { DIRECTIONS = 9 };
 
-extern const int E[DIRECTIONS][2];
 extern const double W[DIRECTIONS];
 
 size_t cells_of(const brothwagon_settings *s);

@@ -81,7 +81,6 @@ mod c {
         ) -> u32;
         pub fn brothwagon_checkpoint_sides(file: *const u8, files: usize, answer: *mut u64) -> u32;
         pub fn brothwagon_read_checkpoint(file: *const u8, files: usize, f: *mut f64, fs: usize, answer: *mut u64) -> u32;
-        pub fn brothwagon_dir_index(ex: i32, ey: i32, direction: *mut u64) -> u32;
     }
 }
 
@@ -208,11 +207,4 @@ pub fn read_checkpoint(file: &[u8], f: &mut [f64]) -> (u32, [u64; 3]) {
     let number =
         unsafe { c::brothwagon_read_checkpoint(file.as_ptr(), file.len(), f.as_mut_ptr(), f.len(), answer.as_mut_ptr()) };
     (number, answer)
-}
-
-/// The number, and the direction with these components.
-pub fn dir_index(ex: i32, ey: i32) -> (u32, u64) {
-    let mut direction = UNWRITTEN;
-    let number = unsafe { c::brothwagon_dir_index(ex, ey, &mut direction) };
-    (number, direction)
 }

@@ -55,4 +55,4 @@ pub use fingerprint::fingerprint;
 pub use level::level;
 pub use refusal::Refusal;
 pub use settings::{Collision, Face, MAGIC_BOUNCE_BACK, Settings, trt_omega_minus};
-pub use study::{BadCell, Lossless, OtherSides, Steady, Study, dir_index};
+pub use study::{BadCell, Lossless, OtherSides, Steady, Study};

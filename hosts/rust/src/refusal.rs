@@ -27,8 +27,6 @@ pub enum Refusal {
     },
     /// 10: the tolerance is NaN, or there are more steps than one run may take.
     Run,
-    /// 11: two components that are no direction's.
-    NoDirection,
     /// 12: a file has fewer than five bytes, so no version.
     FileShort,
     /// 13: a file's version is not 1.
@@ -42,7 +40,7 @@ pub enum Refusal {
 }
 
 /// Every refusal with a meaning, in the order of the numbers.
-const ALL: [Refusal; 15] = [
+const ALL: [Refusal; 14] = [
     Refusal::Sides,
     Refusal::Length,
     Refusal::Rate,
@@ -53,7 +51,6 @@ const ALL: [Refusal; 15] = [
     Refusal::Lossy,
     Refusal::BadSnapshot { steps: 0 },
     Refusal::Run,
-    Refusal::NoDirection,
     Refusal::FileShort,
     Refusal::FileVersion,
     Refusal::FileSides,
@@ -65,7 +62,7 @@ impl Refusal {
     pub(crate) fn of(number: u32) -> Result<(), Refusal> {
         match number {
             0 => Ok(()),
-            _ => Err(ALL.get(number as usize - 1).copied().unwrap_or(Refusal::Unknown(number))),
+            _ => Err(ALL.into_iter().find(|refusal| refusal.number() == number).unwrap_or(Refusal::Unknown(number))),
         }
     }
 
@@ -91,7 +88,6 @@ impl Refusal {
             Refusal::Lossy => (8, "reverse on faces that are not lossless"),
             Refusal::BadSnapshot { .. } => (9, "a snapshot has a density or a velocity component that is not finite"),
             Refusal::Run => (10, "the tolerance is NaN, or there are more than 1,000,000 steps"),
-            Refusal::NoDirection => (11, "the two components are those of no direction"),
             Refusal::FileShort => (12, "the file has fewer than five bytes, so no version"),
             Refusal::FileVersion => (13, "the file's version is not 1"),
             Refusal::FileSides => (14, "the file is cut short before the end of its sides"),
@@ -122,9 +118,10 @@ mod tests {
 
     #[test]
     fn each_number_has_its_refusal() {
-        for (number, refusal) in (1..).zip(ALL) {
-            assert_eq!(refusal.number(), number);
-            assert_eq!(Refusal::of(number), Err(refusal));
+        let numbers: Vec<u32> = (1..=10).chain(12..=15).collect();
+        assert_eq!(ALL.map(Refusal::number)[..], numbers);
+        for refusal in ALL {
+            assert_eq!(Refusal::of(refusal.number()), Err(refusal));
         }
         assert_eq!(Refusal::of(0), Ok(()));
         assert_eq!(Refusal::of(16), Err(Refusal::Unknown(16)));

@@ -257,9 +257,3 @@ impl Study {
         }
     }
 }
-
-/// The direction with these two components.
-pub fn dir_index(ex: i32, ey: i32) -> Result<usize, Refusal> {
-    let (number, direction) = ffi::dir_index(ex, ey);
-    Refusal::of(number).map(|()| direction as usize)
-}

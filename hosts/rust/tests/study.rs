@@ -1,6 +1,6 @@
 //! Every operation of a study, every refusal that its methods can meet, and what a refusal leaves.
 
-use brothwagon::{BadCell, Collision, Face, Lossless, OtherSides, Refusal, Settings, Study, dir_index, trt_omega_minus};
+use brothwagon::{BadCell, Collision, Face, Lossless, OtherSides, Refusal, Settings, Study, trt_omega_minus};
 
 /// A study whose post-collision entries each hold their own index.
 fn numbered(settings: Settings) -> Study {
@@ -145,8 +145,6 @@ fn each_refusal_is_reached() {
     assert_eq!(study(Settings { y_max: Face::NoSlip, ..good }).reverse(), Err(Refusal::Lossy));
     assert_eq!(study(good).run(1_000_001), Err(Refusal::Run));
     assert_eq!(study(good).run_to_steady_state(f64::NAN, 1, 1), Err(Refusal::Run));
-    assert_eq!(dir_index(2, 0), Err(Refusal::NoDirection));
-    assert_eq!(dir_index(-1, 1), Ok(6));
 }
 
 #[test]

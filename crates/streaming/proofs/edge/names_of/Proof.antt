@@ -1,22 +1,22 @@
--- `edge::names_of` meets its contract: over the four faces, the i32 that are looked up are the components.
-use mathlib.Core.Path.{_≡_, refl, ap, _∙_}
+-- `edge::names_of` meets its contract: over the four faces, the i32 that are looked up are the components, which no lookup misses.
+use mathlib.Core.Path.{_≡_, _∙_}
+use Prim.Native.Nat.{ℕ}
 use native.Mathlib.Omega.{arith}
 use lib.IntN.{ℤ, pos, _+ℤ_, _-ℤ_}
 use mir.Syntax.{w32}
 use mir.Val.{toZ, ofZ, SFits}
 use borrow.Author.Needs.{needs}
-use Rattle.lattice.specs.declared.Found.{Found}
 use Rattle.lattice.specs.declared.Axis.{Axis}
 use Rattle.lattice.specs.declared.Axis.the-variants.{X, Y}
 use Rattle.lattice.specs.declared.Side.{Side}
 use Rattle.lattice.specs.declared.Side.the-variants.{Min, Max}
 use Rattle.lattice.specs.declared.Frame.{Frame}
 use Rattle.lattice.specs.Lattice.{directions}
-use Rattle.lattice.specs.Lookup.{isRow, lookup, dirIndexOf}
+use Rattle.lattice.specs.Lookup.{isRow, lookup, dirIndexOf, Direction}
 use Rattle.lattice.specs.Sides.{frameOf}
+use Rattle.lattice.proofs.Lookups.{no-miss}
 use Rattle.streaming.specs.declared.edge.Names.{Names}
 use Rattle.streaming.specs.Faces.{names}
-use Rattle.streaming.specs.Lines.{Sound}
 use Rattle.streaming.proofs.Directions.{sound}
 use Rattle.streaming.proofs.edge.names_of.Statement.{statement}
 use Rattle.streaming.proofs.edge.names_of.Tie as tie
@@ -25,86 +25,66 @@ use Rattle.streaming.proofs.edge.names_of.Tie as tie
 abbrev kept : ℤ → ℤ
 kept z = toZ w32 (ofZ w32 z)
 
--- what the code adds and takes away fits
-record Fits (g : Frame) : Type 0 where
-  tm0 : SFits w32 (pos 0 -ℤ kept (g .t0))
-  tm1 : SFits w32 (pos 0 -ℤ kept (g .t1))
-  np0 : SFits w32 (kept (g .n0) +ℤ kept (g .t0))
-  np1 : SFits w32 (kept (g .n1) +ℤ kept (g .t1))
-  nm0 : SFits w32 (kept (g .n0) -ℤ kept (g .t0))
-  nm1 : SFits w32 (kept (g .n1) -ℤ kept (g .t1))
+-- the code may look (a, b) up, and finds direction d
+record Looked (a b : ℤ) (d : ℕ) : Type 0 where
+  fits-x : SFits w32 a
+  fits-y : SFits w32 b
+  allowed : Direction (kept a) (kept b)
+  is : dirIndexOf (kept a) (kept b) ≡ d
 
-fits : (a : Axis) (s : Side) → Fits (frameOf a s)
-fits X Min = search arith
-fits X Max = search arith
-fits Y Min = search arith
-fits Y Max = search arith
+-- it does so for all names of a frame
+record Named (g : Frame) (d : Names) : Type 0 where
+  n : Looked (g .n0) (g .n1) (d .n)
+  t : Looked (g .t0) (g .t1) (d .t)
+  tm : Looked (pos 0 -ℤ kept (g .t0)) (pos 0 -ℤ kept (g .t1)) (d .tm)
+  np : Looked (kept (g .n0) +ℤ kept (g .t0)) (kept (g .n1) +ℤ kept (g .t1)) (d .np)
+  nm : Looked (kept (g .n0) -ℤ kept (g .t0)) (kept (g .n1) -ℤ kept (g .t1)) (d .nm)
 
--- what the code looks up, and the names that it makes of it
-abbrev looked : ℤ → ℤ → Found
-looked a b = dirIndexOf (kept a) (kept b)
-
-abbrev five : Found → Found → Found → Found → Found → Names
-five n t tm np nm =
-    record { n = n .direction; t = t .direction; tm = tm .direction; np = np .direction; nm = nm .direction }
-
-abbrev coded : Frame → Names
-coded g =
-    five
-    (looked (g .n0) (g .n1))
-    (looked (g .t0) (g .t1))
-    (looked (pos 0 -ℤ kept (g .t0)) (pos 0 -ℤ kept (g .t1)))
-    (looked (kept (g .n0) +ℤ kept (g .t0)) (kept (g .n1) +ℤ kept (g .t1)))
-    (looked (kept (g .n0) -ℤ kept (g .t0)) (kept (g .n1) -ℤ kept (g .t1)))
-
-coded-names : (a : Axis) (s : Side) → coded (frameOf a s) ≡ names a s
+named : (a : Axis) (s : Side) → Named (frameOf a s) (names a s)
 unfolding directions names lookup isRow
-coded-names X Min = refl
-coded-names X Max = refl
-coded-names Y Min = refl
-coded-names Y Max = refl
+named X Min = search (arith, no-miss X Min 0 (omega arith))
+named X Max = search (arith, no-miss X Max 0 (omega arith))
+named Y Min = search (arith, no-miss Y Min 0 (omega arith))
+named Y Max = search (arith, no-miss Y Max 0 (omega arith))
 
-found : (a : Axis) (s : Side) {g : Frame} {d : Names} → g ≡ frameOf a s → d ≡ coded g → (d ≡ names a s) × Sound d
-found a s e i = let is = i ∙ ap coded e ∙ coded-names a s in (is, rw is (sound a s))
-
-fitting : (g : tie.After-frame-of) → Fits (g .frame-of .result)
-fitting g = rw (g .frame-of .ensures) (fits (g .before .args .axis) (g .before .args .side))
+framed : (g : tie.After-frame-of) → Named (g .frame-of .result) (names (g .before .args .axis) (g .before .args .side))
+framed g = rw (g .frame-of .ensures) (named (g .before .args .axis) (g .before .args .side))
 
 frame-of-requires : tie.Need-frame-of-requires
 frame-of-requires c κs = search needs
 
 dir-index-requires : tie.Need-dir-index-requires
-dir-index-requires c κs = search needs
+dir-index-requires c κs = framed (c .before .before .before .before) .n .allowed
 
 dir-index-requires-2 : tie.Need-dir-index-requires-2
-dir-index-requires-2 c κs = search needs
+dir-index-requires-2 c κs = framed (c .before .before .before .before .before) .t .allowed
 
 sub-dir-index : tie.Need-sub-dir-index
-sub-dir-index c = fitting (c .before .before .before .before .before .before) .tm0
+sub-dir-index c = framed (c .before .before .before .before .before .before) .tm .fits-x
 
 sub-dir-index-2 : tie.Need-sub-dir-index-2
-sub-dir-index-2 c = fitting (c .before .before .before .before .before .before) .tm1
+sub-dir-index-2 c = framed (c .before .before .before .before .before .before) .tm .fits-y
 
 dir-index-requires-3 : tie.Need-dir-index-requires-3
-dir-index-requires-3 c κs = search needs
+dir-index-requires-3 c κs = framed (c .before .before .before .before .before .before) .tm .allowed
 
 add-dir-index : tie.Need-add-dir-index
-add-dir-index c = fitting (c .before .before .before .before .before .before .before) .np0
+add-dir-index c = framed (c .before .before .before .before .before .before .before) .np .fits-x
 
 add-dir-index-2 : tie.Need-add-dir-index-2
-add-dir-index-2 c = fitting (c .before .before .before .before .before .before .before) .np1
+add-dir-index-2 c = framed (c .before .before .before .before .before .before .before) .np .fits-y
 
 dir-index-requires-4 : tie.Need-dir-index-requires-4
-dir-index-requires-4 c κs = search needs
+dir-index-requires-4 c κs = framed (c .before .before .before .before .before .before .before) .np .allowed
 
 sub-dir-index-3 : tie.Need-sub-dir-index-3
-sub-dir-index-3 c = fitting (c .before .before .before .before .before .before .before .before) .nm0
+sub-dir-index-3 c = framed (c .before .before .before .before .before .before .before .before) .nm .fits-x
 
 sub-dir-index-4 : tie.Need-sub-dir-index-4
-sub-dir-index-4 c = fitting (c .before .before .before .before .before .before .before .before) .nm1
+sub-dir-index-4 c = framed (c .before .before .before .before .before .before .before .before) .nm .fits-y
 
 dir-index-requires-5 : tie.Need-dir-index-requires-5
-dir-index-requires-5 c κs = search needs
+dir-index-requires-5 c κs = framed (c .before .before .before .before .before .before .before .before) .nm .allowed
 
 returns : tie.Need-returns
 returns c =
@@ -113,9 +93,15 @@ returns c =
     let d2 = d3 .before in
     let d1 = d2 .before in
     let g = d1 .before .before .before .before .before in
-    let a = g .before .args in
-    found (a .axis) (a .side) (g .frame-of .ensures)
-    (λ x. five (d1 .dir-index .ensures x) (d2 .dir-index2 .ensures x) (d3 .dir-index3 .ensures x) (d4 .dir-index4 .ensures x) (c .dir-index5 .ensures x))
+    let l = framed g in
+    let d : _≡_ {A = Names} _ (names (g .before .args .axis) (g .before .args .side)) = λ x. record {
+      n = (d1 .dir-index .ensures ∙ l .n .is) x;
+      t = (d2 .dir-index2 .ensures ∙ l .t .is) x;
+      tm = (d3 .dir-index3 .ensures ∙ l .tm .is) x;
+      np = (d4 .dir-index4 .ensures ∙ l .np .is) x;
+      nm = (c .dir-index5 .ensures ∙ l .nm .is) x;
+    } in
+    (d, rw d (sound (g .before .args .axis) (g .before .args .side)))
 
 pub names-of-spec : {M : Type 1} → statement M
 names-of-spec =
