@@ -1,4 +1,4 @@
-use crate::{Collision, Face, MAGIC_BOUNCE_BACK, Refusal, Settings, Study};
+use crate::{Collision, Face, MAGIC_BOUNCE_BACK, Obstacle, Refusal, Settings, Study};
 use std::error::Error;
 use std::fmt;
 
@@ -9,6 +9,8 @@ pub struct StudyFile {
     pub settings: Settings,
     /// The magic number that the settings' Trt rate was worked out from, if it was.
     pub magic: Option<f64>,
+    /// The cells that obstacles fill, ascending by x + y·nx.
+    pub obstacles: Vec<Obstacle>,
     /// What the populations start from.
     pub start: Start,
     /// Steps of a run, and the most of a steady run.
@@ -149,6 +151,7 @@ impl Draft {
                 y_max: self.y_max.unwrap_or_default(),
             },
             magic,
+            obstacles: Vec::new(),
             start: self.start.unwrap_or(Start::Uniform(1.0, 0.0, 0.0)),
             steps: self.steps.ok_or("steps NUMBER")?,
             tolerance,

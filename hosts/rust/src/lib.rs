@@ -50,6 +50,7 @@ mod settings;
 mod study;
 
 pub use checkpoint::Checkpoint;
+pub use ffi::Obstacle;
 pub use file::{Start, StudyFile, Wrong};
 pub use fingerprint::fingerprint;
 pub use level::level;

@@ -1,4 +1,4 @@
-use crate::{Checkpoint, Refusal, Settings, checkpoint, ffi};
+use crate::{Checkpoint, Obstacle, Refusal, Settings, checkpoint, ffi};
 use std::error::Error;
 use std::fmt;
 
@@ -243,6 +243,25 @@ impl Study {
     /// So many steps.
     pub fn run(&mut self, steps: u64) -> Result<(), Refusal> {
         Refusal::of(ffi::run(&self.words(), steps, &mut self.f, &mut self.post))
+    }
+
+    /// Swaps the populations of each cell of the list, which ascends strictly by x + y·nx, with their opposites: a wall in those
+    /// cells throws them back. A second call with the same list undoes the first.
+    pub fn set_no_slip_bc(&mut self, list: &[Obstacle]) -> Result<(), Refusal> {
+        Refusal::of(ffi::set_no_slip_bc(&self.words(), list, &mut self.f))
+    }
+
+    /// Any number of steps, with [`Study::set_no_slip_bc`] after each. Where settings or list are refused, none is taken.
+    pub fn run_past(&mut self, list: &[Obstacle], steps: u64) -> Result<(), Refusal> {
+        self.run(0)?;
+        // A list is asked about by two calls: the second undoes the first.
+        self.set_no_slip_bc(list)?;
+        self.set_no_slip_bc(list)?;
+        for _ in 0..steps {
+            self.step()?;
+            self.set_no_slip_bc(list)?;
+        }
+        Ok(())
     }
 
     /// Steps until the velocities change by less than the tolerance from one check to the next, relative to the highest.
