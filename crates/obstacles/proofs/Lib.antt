@@ -1,0 +1,9 @@
+pub mod Numbers
+pub mod Ascent
+pub mod Cell
+pub mod Bounced
+pub mod Runs
+pub mod Testing
+pub mod Writing
+pub mod Outcome
+pub mod Twice
