@@ -120,15 +120,7 @@ fn bounce(nx: usize, ny: usize, o: Obstacle, f: &mut [u64])
 // ---- the operation
 
 // Turn j of n + n, at one obstacle: the first n test, and the others write where nothing is refused.
-fn visit(
-    nx: usize,
-    ny: usize,
-    n: usize,
-    j: usize,
-    o: Obstacle,
-    seen: Seen,
-    f: &mut [u64],
-) -> Seen
+fn visit(nx: usize, ny: usize, n: usize, j: usize, o: Obstacle, seen: Seen, f: &mut [u64]) -> Seen
     ensures { λ r. ⌜ turn r (now (f .exit)) ≡ turned nx ny n j o (turn seen (now (f .entry))) ⌝ }
 {
     if j < n {
