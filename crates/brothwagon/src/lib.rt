@@ -203,11 +203,7 @@ pub extern "C" fn brothwagon_run_to_steady_state(
 
 // It hands the list on: a library has only what its own crate gives out.
 #[no_mangle]
-pub extern "C" fn brothwagon_set_no_slip_bc(
-    w: &[u64; 19],
-    list: &[Obstacle],
-    f: &mut [u64],
-) -> u32
+pub extern "C" fn brothwagon_set_no_slip_bc(w: &[u64; 19], list: &[Obstacle], f: &mut [u64]) -> u32
     ensures { λ r. ⌜ outcome r (now (f .exit))
         ≡ noSlipSet (settingsOf (now (w .entry))) (now (list .entry)) (now (f .entry)) ⌝ }
 {

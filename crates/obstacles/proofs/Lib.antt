@@ -7,3 +7,4 @@ pub mod Testing
 pub mod Writing
 pub mod Outcome
 pub mod Twice
+pub mod One
