@@ -9,18 +9,12 @@ use std::fs;
 /// Opposite directions, as the rules have them.
 const OPPOSITE: [usize; 9] = [0, 3, 4, 1, 2, 7, 8, 5, 6];
 
-const NX: usize = 4;
-const CELLS: usize = 12;
-
-/// Populations of a 4 by 3 grid that all differ, with zeros of both signs, infinities and NaNs with a payload among them.
+/// A 4 by 3 grid whose populations all differ; every fifth is a NaN with a payload.
 fn numbered() -> Study {
-    let special = [0, 1 << 63, 0x7ff0 << 48, 0xfff0 << 48, 1, 0x7ff0_dead_beef_0001, 0xffff_ffff_ffff_ffff];
-    let plain = (0u64..).map(|at| 0x3f01_0203_0405_0607 + (at << 24));
-    // Apart, so that each sort stands in a cell that is turned and in one that is not.
-    let patterns = special.into_iter().cycle().zip(plain).enumerate();
-    let populations = patterns.map(|(at, (special, plain))| f64::from_bits(if at % 5 == 0 { special } else { plain }));
-    let mut study = Study::new(Settings::new(NX, CELLS / NX, 0.1)).unwrap();
-    study.f_mut().iter_mut().zip(populations).for_each(|(entry, population)| *entry = population);
+    let mut study = Study::new(Settings::new(4, 3, 0.1)).unwrap();
+    for (at, entry) in (0..).zip(study.f_mut()) {
+        *entry = f64::from_bits(if at % 5 == 0 { 0xfff0_dead_beef_0001 + at } else { 0x3f01_0203_0405_0607 + (at << 24) });
+    }
     study
 }
 
@@ -32,26 +26,28 @@ fn list(cells: &[(usize, usize)]) -> Vec<Obstacle> {
     cells.iter().map(|&(x, y)| Obstacle { x, y }).collect()
 }
 
-/// What the rule makes of these populations: entry (x, y, i) of a named cell is the one that had the opposite of i.
-fn turned(before: &[u64], cells: &[(usize, usize)]) -> Vec<u64> {
-    let entry = |at: usize| {
-        let (cell, i) = (at % CELLS, at / CELLS);
-        let named = cells.contains(&(cell % NX, cell / NX));
-        before[cell + CELLS * if named { OPPOSITE[i] } else { i }]
-    };
-    (0..before.len()).map(entry).collect()
+/// Turns the named cells by the rule: entry (x, y, i) becomes the one that had the opposite of i.
+fn turn(study: &mut Study, named: impl Fn(usize, usize) -> bool) {
+    let (nx, before) = (study.settings().nx, study.f().to_vec());
+    let cells = before.len() / 9;
+    for (at, entry) in study.f_mut().iter_mut().enumerate() {
+        let (cell, i) = (at % cells, at / cells);
+        if named(cell % nx, cell / nx) {
+            *entry = before[cell + OPPOSITE[i] * cells];
+        }
+    }
 }
 
 #[test]
 fn named_cells_are_turned_and_all_others_keep_their_bits() {
-    let all: Vec<(usize, usize)> = (0..CELLS).map(|cell| (cell % NX, cell / NX)).collect();
+    let all: Vec<(usize, usize)> = (0..12).map(|cell| (cell % 4, cell / 4)).collect();
     for cells in [&[][..], &[(0, 0)], &[(3, 2)], &[(1, 0), (2, 0), (0, 1), (3, 2)], &all] {
-        let mut study = numbered();
-        let before = bits(&study);
+        let (mut study, mut by_rule) = (numbered(), numbered());
         study.set_no_slip_bc(&list(cells)).unwrap();
-        assert_eq!(bits(&study), turned(&before, cells), "{cells:?}");
+        turn(&mut by_rule, |x, y| cells.contains(&(x, y)));
+        assert_eq!(bits(&study), bits(&by_rule), "{cells:?}");
         study.set_no_slip_bc(&list(cells)).unwrap();
-        assert_eq!(bits(&study), before, "{cells:?}, twice");
+        assert_eq!(bits(&study), bits(&numbered()), "{cells:?}, twice");
     }
 }
 
@@ -101,24 +97,29 @@ const CHANNEL: &str = "sides 12 7\nviscosity 0.05\nforce 1e-4 1e-5\ny-min no-sli
 
 const NAMED: [(usize, usize); 6] = [(3, 2), (4, 2), (5, 2), (3, 3), (4, 3), (8, 4)];
 
-/// The channel's state after so many steps, each by hand.
-fn by_hand(steps: u64) -> Study {
-    let mut study = StudyFile::read(CHANNEL).unwrap().started().unwrap();
+/// A study after so many steps, each with the named cells turned by the rule.
+fn by_rule(text: &str, steps: u64, named: impl Fn(usize, usize) -> bool) -> Study {
+    let mut study = StudyFile::read(text).unwrap().started().unwrap();
     for _ in 0..steps {
         study.step().unwrap();
-        study.set_no_slip_bc(&list(&NAMED)).unwrap();
+        turn(&mut study, &named);
     }
     study
+}
+
+/// The channel after so many steps.
+fn channel(steps: u64) -> Study {
+    by_rule(CHANNEL, steps, |x, y| NAMED.contains(&(x, y)))
 }
 
 #[test]
 fn a_run_past_obstacles_is_its_steps_with_the_call_after_each() {
     let start = StudyFile::read(CHANNEL).unwrap().started().unwrap();
     for steps in [0, 1, 2, 35] {
-        let (mut study, by_hand) = (start.clone(), by_hand(steps));
+        let (mut study, expected) = (start.clone(), channel(steps));
         study.run_past(&list(&NAMED), steps).unwrap();
-        assert_eq!(bits(&study), bits(&by_hand), "{steps} steps");
-        assert_eq!(study.post(), by_hand.post(), "{steps} steps");
+        assert_eq!(bits(&study), bits(&expected), "{steps} steps");
+        assert_eq!(study.post(), expected.post(), "{steps} steps");
     }
     let (mut none, mut plain) = (start.clone(), start);
     none.run_past(&[], 5).unwrap();
@@ -141,29 +142,37 @@ fn print(study: &Study) -> String {
 
 #[test]
 fn the_command_runs_past_the_obstacles_of_a_study() {
-    let channel = study("past", CHANNEL);
+    let past = study("past", CHANNEL);
     for steps in [0, 1, 35] {
-        let said = out(&format!("run {channel} --steps {steps}"));
-        assert_eq!(value(&said, "fingerprint"), print(&by_hand(steps)), "{steps} steps");
+        let said = out(&format!("run {past} --steps {steps}"));
+        assert_eq!(value(&said, "fingerprint"), print(&channel(steps)), "{steps} steps");
         assert_eq!(value(&said, "obstacle cells"), "6");
     }
     let plain: String = CHANNEL.lines().filter(|line| !line.starts_with("obstacle")).map(|line| format!("{line}\n")).collect();
     let said = out(&format!("run {}", study("past-none", &plain)));
-    assert!(!said.contains("obstacle") && value(&said, "fingerprint") != print(&by_hand(35)), "{said}");
+    assert!(!said.contains("obstacle") && value(&said, "fingerprint") != print(&channel(35)), "{said}");
+}
+
+#[test]
+fn the_post_is_a_block_of_twenty_by_twenty() {
+    let text = fs::read_to_string(path("STUDIES/post.study")).unwrap();
+    let post = by_rule(&text, 20, |x, y| (50..70).contains(&x) && (28..48).contains(&y));
+    let said = out("run STUDIES/post.study --steps 20");
+    assert_eq!((value(&said, "obstacle cells"), value(&said, "fingerprint")), ("400", &print(&post)[..]));
 }
 
 #[test]
 fn a_checkpoint_is_saved_after_the_call_and_a_run_from_it_ends_as_one_that_never_stopped() {
-    let (channel, into) = (study("past-saved", CHANNEL), "MADE/past-saved");
+    let (saved, into) = (study("past-saved", CHANNEL), "MADE/past-saved");
     let _ = fs::remove_dir_all(path(into));
-    let straight = out(&format!("run {channel} --every 1 --into {into} --save {into}/end"));
+    let straight = out(&format!("run {saved} --every 1 --into {into} --save {into}/end"));
     for step in [1, 2, 20, 35] {
         let file = fs::read(path(&format!("{into}/step-{step:010}.checkpoint"))).unwrap();
-        assert!(file == by_hand(step.into()).checkpoint_file(step).unwrap(), "step {step}");
-        let resumed = out(&format!("run {channel} --from {into}/step-{step:010}.checkpoint --steps {}", 35 - step));
+        assert!(file == channel(step.into()).checkpoint_file(step).unwrap(), "step {step}");
+        let resumed = out(&format!("run {saved} --from {into}/step-{step:010}.checkpoint --steps {}", 35 - step));
         assert_eq!(value(&resumed, "fingerprint"), value(&straight, "fingerprint"), "from step {step}");
     }
-    assert!(fs::read(path(&format!("{into}/end"))).unwrap() == by_hand(35).checkpoint_file(35).unwrap());
+    assert!(fs::read(path(&format!("{into}/end"))).unwrap() == channel(35).checkpoint_file(35).unwrap());
 }
 
 #[test]
@@ -176,8 +185,8 @@ fn a_ruined_state_is_said_where_an_obstacle_has_it_too() {
 
 #[test]
 fn a_steady_run_of_a_study_with_obstacles_is_refused_before_anything_is_done() {
-    let (channel, end) = (study("past-steady", CHANNEL), "MADE/missing/end");
-    let (status, said) = failed(&format!("steady {channel} --save {end}"));
+    let (past, end) = (study("past-steady", CHANNEL), "MADE/missing/end");
+    let (status, said) = failed(&format!("steady {past} --save {end}"));
     assert_eq!(status, Some(1));
     let why = "a steady run knows no obstacles, and this study has some; `run` takes its steps past them";
     assert!(said.ends_with(&format!("past-steady.study: {why}\n")), "{said}");

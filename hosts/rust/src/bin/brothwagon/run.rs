@@ -53,10 +53,15 @@ fn walk(start: &mut Start, steps: u64, saves: &Saves) -> Result<Duration, Failur
     Ok(running)
 }
 
-/// So many steps, past the obstacles if there are any.
-fn stride(start: &mut Start, steps: u64) -> Result<(), Refusal> {
-    match &start.file.obstacles[..] {
-        [] => start.study.run(steps),
-        list => start.study.run_past(list, steps),
+/// So many steps, with the obstacles' call after each. Not by `run_past`, which would ask about the list on every stretch: it was
+/// asked about before the first, and that takes as long as two more calls.
+fn stride(Start { study, file, .. }: &mut Start, steps: u64) -> Result<(), Refusal> {
+    if file.obstacles.is_empty() {
+        return study.run(steps);
     }
+    for _ in 0..steps {
+        study.step()?;
+        study.set_no_slip_bc(&file.obstacles)?;
+    }
+    Ok(())
 }
