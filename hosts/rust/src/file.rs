@@ -325,7 +325,8 @@ mod tests {
         assert_eq!(wrong(&format!("{SHORT}\nsides 1 1")), "line 5: expected no second line `sides`, found `sides 1 1`");
         assert_eq!(wrong("# a comment\nsides 3"), "line 2: expected sides NX NY, two whole numbers, found `sides 3`");
         assert_eq!(wrong("y-max moving-wall 0.1"), format!("line 1: expected y-max {FACE}, found `y-max moving-wall 0.1`"));
-        assert!(wrong("faces periodic").ends_with("or steady, found `faces periodic`"));
+        let names = "sides, viscosity, force, collision, x-min, x-max, y-min, y-max, obstacle, start, steps or steady";
+        assert_eq!(wrong("faces periodic"), format!("line 1: expected {names}, found `faces periodic`"));
         assert_eq!(wrong("sides 3 2\nsteps 5"), "line 3: expected a line `viscosity NUMBER`, found the end");
         assert!(wrong("\u{feff}sides 3 2").ends_with(r"found `\u{feff}sides 3 2`"));
         assert!(wrong(&"steps".repeat(1000)).ends_with(&format!("`{}`..", "steps".repeat(12))));

@@ -91,9 +91,9 @@ fn sides_and_lengths_are_refused_before_the_list() {
     assert_eq!(f, [2.5; 109]);
 }
 
-/// A channel past a block, from rest.
+/// A channel past a block and a cell. At rest, to be turned would change nothing.
 const CHANNEL: &str = "sides 12 7\nviscosity 0.05\nforce 1e-4 1e-5\ny-min no-slip\ny-max moving-wall 0.05 0\nsteps 35\n\
-                       obstacle 4 3 to 3 2\nobstacle 8 4 # beyond\nobstacle 5 2\n";
+                       start shear 1 0.05 0.02\nobstacle 4 3 to 3 2\nobstacle 8 4 # beyond\nobstacle 5 2\n";
 
 const NAMED: [(usize, usize); 6] = [(3, 2), (4, 2), (5, 2), (3, 3), (4, 3), (8, 4)];
 
@@ -196,10 +196,17 @@ fn a_steady_run_of_a_study_with_obstacles_is_refused_before_anything_is_done() {
 }
 
 #[test]
+fn the_lossless_question_is_of_streaming_and_faces_alone() {
+    let posts = "sides 3 2\nviscosity 0.1\nsteps 0\nobstacle 1 0 to 2 1\n";
+    assert_eq!(out(&format!("lossless {}", study("posts", posts))), "lossless\n");
+    assert_eq!(out(&format!("lossless {}", study("posts-lossy", &format!("{posts}x-min no-slip\n")))), "lossy 2 0 1\n");
+}
+
+#[test]
 fn a_wrong_obstacle_is_named_with_file_and_line_and_wrong_sides_are_the_librarys_to_refuse() {
     let cases = [
         ("obstacle 12 0", "expected an obstacle on the grid, x from 0 to 11 and y from 0 to 6, found `obstacle 12 0`"),
-        ("obstacle 8 5 to 8 3", "expected no cell of line 8's obstacle again, as x 8, y 4 is, found `obstacle 8 5 to 8 3`"),
+        ("obstacle 8 5 to 8 3", "expected no cell of line 9's obstacle again, as x 8, y 4 is, found `obstacle 8 5 to 8 3`"),
         ("obstacle 1", "expected obstacle X Y or obstacle X Y to X Y, in whole numbers, found `obstacle 1`"),
     ];
     for (line, why) in cases {
@@ -207,7 +214,7 @@ fn a_wrong_obstacle_is_named_with_file_and_line_and_wrong_sides_are_the_librarys
         for words in ["run", "steady", "lossless"] {
             let (status, said) = failed(&format!("{words} {wrong}"));
             assert_eq!(status, Some(2), "{words}: {line}");
-            assert!(said.ends_with(&format!("past-wrong.study: line 10: {why}\n")), "{words}: {said}");
+            assert!(said.ends_with(&format!("past-wrong.study: line 11: {why}\n")), "{words}: {said}");
         }
     }
     let sides = study("past-sides", &CHANNEL.replace("12 7", "4097 7"));
