@@ -10,7 +10,7 @@ pub struct StudyFile {
     pub settings: Settings,
     /// The magic number that the settings' Trt rate was worked out from, if it was.
     pub magic: Option<f64>,
-    /// The cells that obstacles fill, ascending by x + y·nx.
+    /// The cells that obstacles fill, ascending by x + y·nx; none if no grid has the sides.
     pub obstacles: Vec<Obstacle>,
     /// What the populations start from.
     pub start: Start,

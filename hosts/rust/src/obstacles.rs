@@ -54,10 +54,11 @@ fn cell(x: &str, y: &str) -> Option<Obstacle> {
 
 /// The cells of the blocks, ascending by x + y·nx; or the first line that is wrong, and what is expected there.
 pub(crate) fn cells(blocks: &[Block], nx: usize, ny: usize) -> Result<Vec<Obstacle>, (usize, String)> {
-    // Sides that no grid has are the library's to refuse: no cell is on such a grid.
+    // Sides that no grid has are the library's to refuse, and no place is on such a grid or off it.
     if blocks.is_empty() || !are_sides(nx, ny) {
         return Ok(Vec::new());
     }
+    // Of each cell, the line that names it.
     let mut lines = vec![None; nx * ny];
     for block in blocks {
         block.fill(&mut lines, nx, ny).map_err(|expected| (block.line, expected))?;
