@@ -1,3 +1,4 @@
+use crate::obstacles::{self, Block, OBSTACLE};
 use crate::{Collision, Face, MAGIC_BOUNCE_BACK, Obstacle, Refusal, Settings, Study};
 use std::error::Error;
 use std::fmt;
@@ -9,7 +10,7 @@ pub struct StudyFile {
     pub settings: Settings,
     /// The magic number that the settings' Trt rate was worked out from, if it was.
     pub magic: Option<f64>,
-    /// The cells that obstacles fill, ascending by x + y·nx.
+    /// The cells that obstacles fill, ascending by x + y·nx; none if no grid has the sides.
     pub obstacles: Vec<Obstacle>,
     /// What the populations start from.
     pub start: Start,
@@ -49,6 +50,8 @@ impl fmt::Display for Wrong {
 
 impl Error for Wrong {}
 
+const NAMES: &str = "sides, viscosity, force, collision, x-min, x-max, y-min, y-max, obstacle, start, steps or steady";
+
 const FACE: &str = "periodic, no-slip, moving-wall UX UY, symmetry, velocity UX UY or pressure DENSITY";
 
 /// A Trt rate may be given by a magic number, which asks for the viscosity, on whatever line it stands.
@@ -68,6 +71,8 @@ struct Draft {
     x_max: Option<Face>,
     y_min: Option<Face>,
     y_max: Option<Face>,
+    blocks: Vec<Block>,
+    obstacles: Vec<Obstacle>,
     start: Option<Start>,
     steps: Option<u64>,
     steady: Option<(f64, u64)>,
@@ -77,12 +82,10 @@ impl StudyFile {
     /// Reads the text of a study file.
     pub fn read(text: &str) -> Result<StudyFile, Wrong> {
         let mut draft = Draft::default();
-        for (above, line) in text.lines().enumerate() {
-            let said = line.split('#').next().unwrap_or_default();
-            let words: Vec<&str> = said.split_whitespace().collect();
-            if let [name, values @ ..] = &words[..] {
-                draft.take(name, values).map_err(|expected| Wrong { line: above + 1, expected, found: quoted(&words) })?;
-            }
+        // A line is wrong by itself or, as an obstacle, by the sides, which may stand below it.
+        let taken = [draft.take_lines(text), draft.place_obstacles()];
+        if let Some((line, expected)) = taken.into_iter().filter_map(Result::err).min() {
+            return Err(Wrong { line, expected, found: found(text, line) });
         }
         draft.finish().map_err(|missing| Wrong {
             line: text.lines().count() + 1,
@@ -99,16 +102,32 @@ impl StudyFile {
     }
 }
 
-/// The words of a line, to be shown: on one line, and not too many.
-fn quoted(words: &[&str]) -> String {
+/// The words of a line, without its comment.
+fn words(line: &str) -> Vec<&str> {
+    line.split('#').next().unwrap_or_default().split_whitespace().collect()
+}
+
+/// The words of a text's line, to be shown: on one line, and not too many.
+fn found(text: &str, line: usize) -> String {
     const MOST: usize = 60;
-    let said = words.join(" ");
+    let said = words(text.lines().nth(line - 1).unwrap_or_default()).join(" ");
     let shown: String = said.chars().take(MOST).flat_map(char::escape_debug).collect();
     if said.chars().nth(MOST).is_some() { format!("`{shown}`..") } else { format!("`{shown}`") }
 }
 
 impl Draft {
-    fn take(&mut self, name: &str, values: &[&str]) -> Result<(), String> {
+    /// Takes every line of a text; or says of the first that is not as expected which one it is, and what was.
+    fn take_lines(&mut self, text: &str) -> Result<(), (usize, String)> {
+        let mut taken = Ok(());
+        for (line, said) in (1..).zip(text.lines()) {
+            if let [name, values @ ..] = &words(said)[..] {
+                taken = taken.and(self.take(line, name, values).map_err(|expected| (line, expected)));
+            }
+        }
+        taken
+    }
+
+    fn take(&mut self, line: usize, name: &str, values: &[&str]) -> Result<(), String> {
         match name {
             "sides" => once(&mut self.sides, pair(values, whole), name, "sides NX NY, two whole numbers"),
             "viscosity" => once(&mut self.viscosity, single(values, number), name, "viscosity NUMBER"),
@@ -120,11 +139,23 @@ impl Draft {
             "x-max" => once(&mut self.x_max, face(values), name, &format!("x-max {FACE}")),
             "y-min" => once(&mut self.y_min, face(values), name, &format!("y-min {FACE}")),
             "y-max" => once(&mut self.y_max, face(values), name, &format!("y-max {FACE}")),
+            "obstacle" => {
+                self.blocks.push(Block::read(line, values).ok_or(OBSTACLE)?);
+                Ok(())
+            }
             "start" => once(&mut self.start, start(values), name, "start uniform DENSITY UX UY or start shear DENSITY UX UY"),
             "steps" => once(&mut self.steps, single(values, whole), name, "steps NUMBER, a whole one below 2^64"),
             "steady" => once(&mut self.steady, steady(values), name, "steady TOLERANCE CHECK_EVERY, the latter whole"),
-            _ => Err("sides, viscosity, force, collision, x-min, x-max, y-min, y-max, start, steps or steady".to_string()),
+            _ => Err(NAMES.to_string()),
         }
+    }
+
+    /// Finds the cells of the obstacles, if there are sides to hold them to; or says what is wrong as with lines.
+    fn place_obstacles(&mut self) -> Result<(), (usize, String)> {
+        if let Some((nx, ny)) = self.sides {
+            self.obstacles = obstacles::cells(&self.blocks, nx, ny)?;
+        }
+        Ok(())
     }
 
     /// The study, with what it left out as in the solver's source: no force, Trt with 3/16, periodic, at rest.
@@ -151,7 +182,7 @@ impl Draft {
                 y_max: self.y_max.unwrap_or_default(),
             },
             magic,
-            obstacles: Vec::new(),
+            obstacles: self.obstacles,
             start: self.start.unwrap_or(Start::Uniform(1.0, 0.0, 0.0)),
             steps: self.steps.ok_or("steps NUMBER")?,
             tolerance,
@@ -294,7 +325,8 @@ mod tests {
         assert_eq!(wrong(&format!("{SHORT}\nsides 1 1")), "line 5: expected no second line `sides`, found `sides 1 1`");
         assert_eq!(wrong("# a comment\nsides 3"), "line 2: expected sides NX NY, two whole numbers, found `sides 3`");
         assert_eq!(wrong("y-max moving-wall 0.1"), format!("line 1: expected y-max {FACE}, found `y-max moving-wall 0.1`"));
-        assert!(wrong("faces periodic").ends_with("or steady, found `faces periodic`"));
+        let names = "sides, viscosity, force, collision, x-min, x-max, y-min, y-max, obstacle, start, steps or steady";
+        assert_eq!(wrong("faces periodic"), format!("line 1: expected {names}, found `faces periodic`"));
         assert_eq!(wrong("sides 3 2\nsteps 5"), "line 3: expected a line `viscosity NUMBER`, found the end");
         assert!(wrong("\u{feff}sides 3 2").ends_with(r"found `\u{feff}sides 3 2`"));
         assert!(wrong(&"steps".repeat(1000)).ends_with(&format!("`{}`..", "steps".repeat(12))));

@@ -45,6 +45,7 @@ mod file;
 mod fingerprint;
 #[allow(unsafe_code)]
 mod level;
+mod obstacles;
 mod refusal;
 mod settings;
 mod study;

@@ -79,12 +79,17 @@ impl fmt::Display for OtherSides {
 
 impl Error for OtherSides {}
 
+/// Whether a grid can have these sides. The library alone knows their limits: an empty buffer has the wrong length on every
+/// grid, so this is refused with 2 where the sides are good, and with 1 where they are not.
+pub(crate) fn are_sides(nx: usize, ny: usize) -> bool {
+    let sides = ffi::Settings { nx: nx as u64, ny: ny as u64, ..ffi::Settings::default() };
+    ffi::total_mass(&sides, &[]).0 != Refusal::Sides.number()
+}
+
 impl Study {
     /// A study with its buffers; refused where the sides are.
     pub fn new(settings: Settings) -> Result<Study, Refusal> {
-        // The library alone knows the limits of the sides: an empty buffer has the wrong length on every grid, so this is
-        // refused with 2 where the sides are good, and with 1 where they are not.
-        if let (1, _) = ffi::total_mass(&(&settings).into(), &[]) {
+        if !are_sides(settings.nx, settings.ny) {
             return Err(Refusal::Sides);
         }
         let cells = settings.nx * settings.ny;
