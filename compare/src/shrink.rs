@@ -4,6 +4,9 @@ use crate::case::{Case, Start};
 use crate::comparison::{Comparison, Difference};
 use brothwagon::ffi;
 
+/// So many obstacles are left out one by one.
+const FEW: usize = 16;
+
 /// Takes any simpler case that still differs, until there is none.
 pub fn smallest(comparison: &mut Comparison, mut case: Case, mut difference: Difference) -> (Case, Difference) {
     while let Some(found) =
@@ -20,8 +23,8 @@ fn simpler(case: &Case) -> Vec<Case> {
     let mut with = |change: &dyn Fn(&mut Case)| {
         let mut simpler = case.clone();
         change(&mut simpler);
-        // By what they say, since a NaN is not equal to itself.
-        if simpler.to_string() != case.to_string() {
+        // By what they say, since a NaN is not equal to itself; of a long list it is not all said.
+        if simpler.to_string() != case.to_string() || simpler.list != case.list {
             tries.push(simpler);
         }
     };
@@ -31,6 +34,14 @@ fn simpler(case: &Case) -> Vec<Case> {
         with(&|case| case.settings.ny = less(case.settings.ny));
         with(&|case| case.steps = less(case.steps));
     }
+    let obstacles = case.list.len();
+    with(&|case| case.list.truncate(obstacles / 2));
+    with(&|case| drop(case.list.drain(..obstacles / 2)));
+    for at in 0..obstacles.min(FEW) {
+        with(&|case| drop(case.list.drain(at..=at)));
+    }
+    with(&|case| case.list.iter_mut().for_each(|obstacle| obstacle.x /= 2));
+    with(&|case| case.list.iter_mut().for_each(|obstacle| obstacle.y /= 2));
     for at in 0..4 {
         with(&|case| *case.face_mut(at) = ffi::Face::default());
         if case.faces()[at].kind > 1 {
