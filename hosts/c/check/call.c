@@ -151,8 +151,10 @@ static void fill(double *into, int which, size_t count) {
 }
 
 void set_list(Call *call, const brothwagon_obstacle *list, size_t count) {
-    memset(call->list, 0xff, sizeof call->list);
-    memcpy(call->list, list, count * sizeof *list);
+    const brothwagon_obstacle behind = {0 - call->settings.nx, 1};
+    for (size_t k = 0; k < OBSTACLES; k++) {
+        call->list[k] = k < count ? list[k] : behind;
+    }
     call->list_count = count;
 }
 

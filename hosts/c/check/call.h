@@ -55,7 +55,7 @@ uint64_t pattern(double number);
  * every cell, and zeros. */
 Call begin(uint64_t nx, uint64_t ny, const char *format, ...);
 
-/* Makes this list that of the call, with places outside behind it, which no call may look at. */
+/* Makes this list that of the call. Behind it stand places outside whose x + y nx wraps to 0, so that a look at one shows. */
 void set_list(Call *call, const brothwagon_obstacle *list, size_t count);
 
 /* Makes the call, and fails unless it answers this number and leaves what is wanted. */
