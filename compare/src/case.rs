@@ -237,7 +237,7 @@ impl Case {
             }
             Operation::SetNoSlipBc => {
                 let steps = self.before().map_or(0, |run| run.steps);
-                format!("\n  after {steps} steps, {} obstacles{}", self.list.len(), first_places(&self.list))
+                format!("\n  steps before {steps}, obstacles {}{}", self.list.len(), first_places(&self.list))
             }
             _ => String::new(),
         }
@@ -247,8 +247,8 @@ impl Case {
 /// The places of a list's first obstacles.
 fn first_places(list: &[ffi::Obstacle]) -> String {
     const MOST: usize = 24;
-    let places: String = list.iter().take(MOST).map(|obstacle| format!(" ({}, {})", obstacle.x, obstacle.y)).collect();
-    if list.len() > MOST { places + " .." } else { places }
+    let places = list.iter().take(MOST).map(|obstacle| format!(" ({}, {})", obstacle.x, obstacle.y));
+    places.chain((list.len() > MOST).then(|| " ..".to_string())).collect()
 }
 
 fn face_name(face: ffi::Face) -> String {
