@@ -14,7 +14,7 @@ const SQUARE: usize = 26;
 /// The steps that are timed at once.
 const STEPS: u64 = 20;
 
-/// What is timed, as words to a worker: a run; as many calls of step; and the same with an obstacle in one cell, or in a square.
+/// What is timed, as words to a worker: a run; as many calls of step; and those with obstacles in one cell, or in a square.
 const TIMED: [&str; 4] = ["run", "step", "cell", "square"];
 
 /// The table: the titles, and a row for each level, timed in so many turns.
