@@ -46,9 +46,8 @@ of a file's bytes, and how many times as long it takes to write and to read one,
 written and read must be as the format has it, byte for byte.
 
 Last, or alone (--obstacles), come obstacles in a closed box of 256 by 256 cells with Trt: on each level, the milliseconds of
-a step of `run` without obstacles, and how many times as long it takes to step by one call for each step, and to do so with a
-call for the obstacles after it: for one cell, and for a square of a hundredth of all. Each must end like the Rust, bit for
-bit.
+a step of `run` without obstacles, and how many times as long a step takes by a call of its own, alone and with a call for the
+obstacles after it: in one cell, and in a square of a hundredth of all cells. Each must end like the Rust, bit for bit.
 
 --sides, --kinds (trt, bgk, mrt) and --densities narrow the table. --svg draws it; --page puts it and the two others, in
 Markdown, between the lines `<!-- measured -->` and `<!-- end of measured -->` of FILE. --machine is the name that both give

@@ -84,6 +84,10 @@ fn good(made: &mut Made, operation: Operation, (nx, ny): (u64, u64)) -> Case {
     let (collision, rate, magic) = collision(made, nu);
     let (fx, fy) = force(made);
     let [x_min, x_max, y_min, y_max] = faces(made, copying);
+    let (list, steps) = match operation {
+        Operation::SetNoSlipBc => (list(made, nx, ny), made.pick(&[0, 0, 0, 1, 2, 5])),
+        _ => (Vec::new(), steps(made, nx * ny)),
+    };
     Case {
         operation,
         settings: ffi::Settings { nx, ny, nu, fx, fy, collision, rate, x_min, x_max, y_min, y_max },
@@ -94,8 +98,8 @@ fn good(made: &mut Made, operation: Operation, (nx, ny): (u64, u64)) -> Case {
         x: made.below(nx) as usize,
         y: made.below(ny) as usize,
         direction: made.below(9) as usize,
-        list: if operation == Operation::SetNoSlipBc { list(made, nx, ny) } else { Vec::new() },
-        steps: if operation == Operation::SetNoSlipBc { made.pick(&[0, 0, 0, 1, 2, 5]) } else { steps(made, nx * ny) },
+        list,
+        steps,
         check_every: made.pick(&[0, 1, 1, 2, 3, 5, 1000, u64::MAX]),
         tolerance: made.pick(&[0.0, 1e-3, 1e-2, 0.1, 1.0, f64::INFINITY, -1.0, 1e-300]),
     }
@@ -269,7 +273,7 @@ fn wrong_place(case: &mut Case, made: &mut Made) {
     case.direction = made.pick(&[9, 10, usize::MAX]);
 }
 
-/// An obstacle outside, anywhere in the list; in the last two, x + y nx is still that of its cell.
+/// An obstacle outside, anywhere in the list; where it is wrapped, x + y nx is still that of its cell.
 fn wrong_obstacle(case: &mut Case, made: &mut Made) {
     let (nx, ny) = (case.settings.nx as usize, case.settings.ny as usize);
     if case.list.is_empty() {

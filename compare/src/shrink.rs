@@ -9,23 +9,24 @@ const FEW: usize = 16;
 
 /// Takes any simpler case that still differs, until there is none.
 pub fn smallest(comparison: &mut Comparison, mut case: Case, mut difference: Difference) -> (Case, Difference) {
-    while let Some(found) =
-        simpler(&case).into_iter().find_map(|case| comparison.compare(&case).err().map(|difference| (case, difference)))
-    {
+    while let Some(found) = simpler(comparison, &case) {
         (case, difference) = found;
     }
     (case, difference)
 }
 
-/// Cases that are simpler in one thing, the boldest first.
-fn simpler(case: &Case) -> Vec<Case> {
-    let mut tries = Vec::new();
+/// The first case that is simpler in one thing and still differs; the boldest are tried first.
+fn simpler(comparison: &mut Comparison, case: &Case) -> Option<(Case, Difference)> {
+    let mut found = None;
     let mut with = |change: &dyn Fn(&mut Case)| {
+        if found.is_some() {
+            return;
+        }
         let mut simpler = case.clone();
         change(&mut simpler);
         // By what they say, since a NaN is not equal to itself; of a long list it is not all said.
         if simpler.to_string() != case.to_string() || simpler.list != case.list {
-            tries.push(simpler);
+            found = comparison.compare(&simpler).err().map(|difference| (simpler, difference));
         }
     };
     // None is more than what it starts from, so that this ends.
@@ -62,5 +63,5 @@ fn simpler(case: &Case) -> Vec<Case> {
     with(&|case| case.direction = 0);
     with(&|case| case.check_every = 1);
     with(&|case| case.tolerance = 0.0);
-    tries
+    found
 }
