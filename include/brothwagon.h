@@ -160,7 +160,8 @@ uint32_t brothwagon_run_to_steady_state(const brothwagon_settings *settings, dou
 /* Swaps the populations of each cell of the list with those of their opposite directions, as a wall in that cell throws them
  * back; every other entry keeps its bits, and a second call with the same list undoes the first. The list has list_count
  * obstacles, which ascend strictly by x + y nx; an empty one changes nothing. A study with posts calls it after each step.
- * Numbers 1, 2, 6, 16, each over the whole list; then f is as it was. */
+ * Number 6 is tested over the whole list, then 16.
+ * Numbers 1, 2, 6, 16; then f is as it was. */
 uint32_t brothwagon_set_no_slip_bc(const brothwagon_settings *settings, const brothwagon_obstacle *list, size_t list_count,
                                    double *f, size_t f_length);
 
