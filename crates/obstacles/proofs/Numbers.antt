@@ -18,13 +18,13 @@ pub record Fits (nx ny len : ℕ) (o : Obstacle) : Type 0 where
   pub cell : placeOf nx o < nx * ny
   pub few : nx * ny ≤ mostCells
 
-pub fits : (nx ny len : ℕ) (o : Obstacle) → placeNumber nx ny len o ≡ 0 → Fits nx ny len o
+pub fits : (nx ny len : ℕ) (o : Obstacle) (later : ℕ) → placeNumber nx ny len o later ≡ 0 → Fits nx ny len o
 unfolding placeNumber sizeNumber
-fits nx ny len o e =
+fits nx ny len o later e =
     let bad = placeBad nx ny (o .x) (o .y) in
     let a = none (sidesBad nx ny) 1 _ tt e in
     let b = none (lengthBad nx ny 9 len) 2 _ tt (a .1) in
-    let c = none bad 6 0 tt (b .1) .0 in
+    let c = none bad 6 later tt (b .1) .0 in
     let x = leb-false nx (o .x) (or-left (leb nx (o .x)) (leb ny (o .y)) c) in
     let y = leb-false ny (o .y) (or-right (leb nx (o .x)) (leb ny (o .y)) c) in
     record {

@@ -32,7 +32,7 @@ module _ (nx ny len : ℕ) where
     unfolding testedOf placeNumber
     stays-bad [] = refl
     stays-bad (o ∷ rest) =
-        rw (all-same (cond (placeBad nx ny (o .x) (o .y)) 6 0), ne-eqb (suc b) 0 (λ e. omega (arith, e)))
+        rw (all-same (cond (placeBad nx ny (o .x) (o .y)) 6 (suc b)), ne-eqb (suc b) 0 (λ e. omega (arith, e)))
         (stays-bad rest)
 
     bad-number : (list : List Obstacle) → Right list
@@ -45,29 +45,30 @@ module _ (nx ny len : ℕ) where
     -- one turn, by what the place is
     turn-outside : (o : Obstacle) (s : Seen) → placeBad nx ny (o .x) (o .y) ≡ true → tests o s ≡ seen 6 0
     unfolding testedOf placeNumber
-    turn-outside o s e = rw (later-ones (cond (placeBad nx ny (o .x) (o .y)) 6 0), e)
+    turn-outside o s e = rw (later-ones (cond (placeBad nx ny (o .x) (o .y)) 6 (s .number)), e)
 
     turn-inside : (o : Obstacle) (s : Seen) → placeBad nx ny (o .x) (o .y) ≡ false
         → tests o s
-        ≡ cond (eqb (s .number) 0) (cond (ltb (placeOf nx o) (s .next)) (seen 16 0) (seen 0 (placeOf nx o + 1))) s
+        ≡ cond (eqb (s .number) 0) (cond (ltb (placeOf nx o) (s .next)) (seen 16 0) (seen 0 (placeOf nx o + 1)))
+        (seen (s .number) 0)
     unfolding testedOf placeNumber
-    turn-inside o s e = rw (later-ones (cond (placeBad nx ny (o .x) (o .y)) 6 0), e)
+    turn-inside o s e = rw (later-ones (cond (placeBad nx ny (o .x) (o .y)) 6 (s .number)), e)
 
     after-6 : (m : ℕ) (list : List Obstacle) → whole tests (seen 6 m) list .number ≡ 6
     after-6 m [] = refl
-    after-6 m (o ∷ rest) = go (λ k. after-6 k rest) (placeBad nx ny (o .x) (o .y)) refl
+    after-6 m (o ∷ rest) = go (after-6 0 rest) (placeBad nx ny (o .x) (o .y)) refl
       where
-        go : ((k : ℕ) → whole tests (seen 6 k) rest .number ≡ 6) → (p : Bool) → placeBad nx ny (o .x) (o .y) ≡ p
+        go : whole tests (seen 6 0) rest .number ≡ 6 → (p : Bool) → placeBad nx ny (o .x) (o .y) ≡ p
             → whole tests (tests o (seen 6 m)) rest .number ≡ 6
-        go ih true e = rw (turn-outside o (seen 6 m) e) (ih 0)
-        go ih false e = rw (turn-inside o (seen 6 m) e) (ih m)
+        go ih true e = rw (turn-outside o (seen 6 m) e) ih
+        go ih false e = rw (turn-inside o (seen 6 m) e) ih
 
     after-16 : (m : ℕ) (list : List Obstacle) → whole tests (seen 16 m) list .number ≡ cond (outside nx ny list) 6 16
     unfolding outside
     after-16 m [] = refl
-    after-16 m (o ∷ rest) = go (after-16 m rest) (placeBad nx ny (o .x) (o .y)) refl
+    after-16 m (o ∷ rest) = go (after-16 0 rest) (placeBad nx ny (o .x) (o .y)) refl
       where
-        go : whole tests (seen 16 m) rest .number ≡ cond (outside nx ny rest) 6 16
+        go : whole tests (seen 16 0) rest .number ≡ cond (outside nx ny rest) 6 16
             → (p : Bool) → placeBad nx ny (o .x) (o .y) ≡ p
             → whole tests (tests o (seen 16 m)) rest .number
             ≡ cond (placeBad nx ny (o .x) (o .y) || outside nx ny rest) 6 16

@@ -22,16 +22,15 @@ sizeNumber nx ny len later = cond (sidesBad nx ny) 1 (cond (lengthBad nx ny 9 le
 unfoldable pub begunOf : ℕ → ℕ → ℕ → Seen
 begunOf nx ny len = seen (sizeNumber nx ny len 0) 0
 
--- the number that one obstacle gives by itself: 1, 2, 6 or 0
-unfoldable pub placeNumber : ℕ → ℕ → ℕ → Obstacle → ℕ
-placeNumber nx ny len o = sizeNumber nx ny len (cond (placeBad nx ny (o .x) (o .y)) 6 0)
+-- 1, 2 or 6, of one obstacle's place, and else what the later tests give
+unfoldable pub placeNumber : ℕ → ℕ → ℕ → Obstacle → ℕ → ℕ
+placeNumber nx ny len o later = sizeNumber nx ny len (cond (placeBad nx ny (o .x) (o .y)) 6 later)
 
--- a turn that tests
+-- a turn that tests: a number that is found stays, but a place outside counts before the order
 unfoldable pub testedOf : ℕ → ℕ → ℕ → Obstacle → Seen → Seen
 testedOf nx ny len o s =
-    cond (eqb (placeNumber nx ny len o) 0)
-    (cond (eqb (s .number) 0) (cond (ltb (placeOf nx o) (s .next)) (seen 16 0) (seen 0 (placeOf nx o + 1))) s)
-    (seen (placeNumber nx ny len o) 0)
+    let number = placeNumber nx ny len o (s .number) in
+    cond (eqb number 0) (cond (ltb (placeOf nx o) (s .next)) (seen 16 0) (seen 0 (placeOf nx o + 1))) (seen number 0)
 
 -- ---- one cell
 
@@ -41,7 +40,7 @@ exchanged i k j = cond (eqb j i) k (cond (eqb j k) i j)
 
 -- one obstacle's cell, where it fits
 unfoldable pub bouncedAt : ℕ → ℕ → Obstacle → List ℕ → List ℕ
-bouncedAt nx ny o f = cond (eqb (placeNumber nx ny (length f) o) 0) (bouncedBuffer nx ny (o ∷ []) f) f
+bouncedAt nx ny o f = cond (eqb (placeNumber nx ny (length f) o 0) 0) (bouncedBuffer nx ny (o ∷ []) f) f
 
 -- ---- the turns
 

@@ -2,13 +2,11 @@
 use settings::Obstacle;
 use settings::Settings;
 ghost use mathlib.Core.Path.{_≡_};
-ghost use mathlib.Core.Bool.{cond};
 ghost use Prim.Native.Nat.{_+_, _*_, _<_};
 ghost use lib.ListN.{getD};
 ghost use Rattle.lattice.specs.Lattice.{OPP};
 ghost use Rattle.grid.specs.Grid.{Holds};
 ghost use Rattle.grid.specs.Writes.{Put};
-ghost use Rattle.settings.specs.Tests.{placeBad};
 ghost use Rattle.settings.specs.Outcome.{outcome};
 ghost use Rattle.obstacles.specs.Obstacles.{noSlipSet};
 ghost use Rattle.obstacles.specs.Turns.{exchanged, turn, sizeNumber, placeNumber, begunOf, testedOf, bouncedAt, turned};
@@ -44,30 +42,21 @@ fn begun(nx: usize, ny: usize, len: usize) -> Seen
     }
 }
 
-// Number 6, or 0.
-fn outside(nx: usize, ny: usize, o: Obstacle) -> u32
-    ensures { λ r. ⌜ r ≡ cond (placeBad nx ny (o .x) (o .y)) 6 0 ⌝ }
+// Number 1, 2 or 6, and else what the later tests gave.
+fn place_number(nx: usize, ny: usize, len: usize, o: Obstacle, later: u32) -> u32
+    ensures { λ r. ⌜ r ≡ placeNumber nx ny len o later ⌝ }
 {
-    if (nx <= o.x) | (ny <= o.y) { 6 } else { 0 }
-}
-
-// Number 1, 2 or 6, or 0.
-fn place_number(nx: usize, ny: usize, len: usize, o: Obstacle) -> u32
-    ensures { λ r. ⌜ r ≡ placeNumber nx ny len o ⌝ }
-{
-    size_number(nx, ny, len, outside(nx, ny, o))
+    let later = settings::number_if((nx <= o.x) | (ny <= o.y), 6, later);
+    size_number(nx, ny, len, later)
 }
 
 // One more obstacle is tested. A place outside counts before the order, wherever it stands in the list.
 fn tested(nx: usize, ny: usize, len: usize, o: Obstacle, seen: Seen) -> Seen
     ensures { λ r. ⌜ r ≡ testedOf nx ny len o seen ⌝ }
 {
-    let number = place_number(nx, ny, len, o);
+    let number = place_number(nx, ny, len, o, seen.number);
     if number != 0 {
         return Seen { number, next: 0 };
-    }
-    if seen.number != 0 {
-        return seen;
     }
     let c = o.x + o.y * nx;
     if c < seen.next {
@@ -112,7 +101,7 @@ fn swap(f: &mut [u64], n: usize, c: usize)
 fn bounce(nx: usize, ny: usize, o: Obstacle, f: &mut [u64])
     ensures { λ _. ⌜ now (f .exit) ≡ bouncedAt nx ny o (now (f .entry)) ⌝ }
 {
-    if place_number(nx, ny, f.len(), o) == 0 {
+    if place_number(nx, ny, f.len(), o, 0) == 0 {
         swap(f, nx * ny, o.x + o.y * nx);
     }
 }

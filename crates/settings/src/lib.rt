@@ -199,7 +199,7 @@ fn count_bad(h: Head) -> bool
 
 // ---- the tests with their numbers: each gives its own where its test holds, and else what the later tests gave
 
-fn number_if(bad: bool, number: u32, later: u32) -> u32
+pub fn number_if(bad: bool, number: u32, later: u32) -> u32
     ensures { λ r. ⌜ r ≡ cond bad number later ⌝ }
 {
     if bad { number } else { later }

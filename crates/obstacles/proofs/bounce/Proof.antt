@@ -11,7 +11,7 @@ use Rattle.obstacles.proofs.bounce.Statement.{statement}
 use Rattle.obstacles.proofs.bounce.Tie as tie
 
 place : (c : tie.Then1) → let a = c .before .before .before .args in Fits (a .nx) (a .ny) (length (a .f .now)) (a .o)
-place c = fits _ _ _ _ (sym (c .before .place-number .ensures) ∙ c .if1 .taken)
+place c = fits _ _ _ _ 0 (sym (c .before .place-number .ensures) ∙ c .if1 .taken)
 
 place-number-requires : tie.Need-place-number-requires
 place-number-requires c κs = search needs
