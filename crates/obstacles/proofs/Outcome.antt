@@ -35,19 +35,19 @@ module _ (s : Settings) (list : List Obstacle) (f : List ℕ) where
 
   -- ---- the turns that test
 
-  abbrev tests : Obstacle → Seen → Seen
-  tests = testedOf nx ny (length f)
+  abbrev sees : Obstacle → Seen → Seen
+  sees = testedOf nx ny (length f)
 
-  testing : (k : ℕ) → k ≤ n → after nx ny list f k ≡ turn (upTo tests (begunOf nx ny (length f)) list k) f
+  testing : (k : ℕ) → k ≤ n → after nx ny list f k ≡ turn (upTo sees (begunOf nx ny (length f)) list k) f
   unfolding after turned
   testing zero h = refl
   testing (suc k) h = rw (testing k (omega arith), mod-eq-of-lt h, lt-ltb k n h)
 
   abbrev found : Seen
-  found = whole tests (begunOf nx ny (length f)) list
+  found = whole sees (begunOf nx ny (length f)) list
 
   tested-all : after nx ny list f n ≡ turn found f
-  tested-all = testing n (omega arith) ∙ ap (λ (t : Seen). turn t f) (up-to-all tests (begunOf nx ny (length f)) list)
+  tested-all = testing n (omega arith) ∙ ap (λ (t : Seen). turn t f) (up-to-all sees (begunOf nx ny (length f)) list)
 
   -- ---- the turns that write
 

@@ -77,7 +77,10 @@ abbrev local : ℕ → ℕ → ℕ
 local base i = base - 2 * i
 
 abbrev stayed : Stays (own.ended .signature .params) (own.ended .kept)
-stayed = (stay-none-ref (0 ∷ []) tt words-slot yes, (stay-none-slice (1 ∷ []) tt (plain (λ _. ObsR)) yes, (gave-slice (2 ∷ []) tt (plain (λ _. u64)), tt)))
+stayed = (
+  stay-none-ref (0 ∷ []) tt words-slot yes,
+  (stay-none-slice (1 ∷ []) tt (plain (λ _. ObsR)) yes, (gave-slice (2 ∷ []) tt (plain (λ _. u64)), tt)),
+)
 
 -- ---- the contracts that the proof cites
 
@@ -156,7 +159,8 @@ module _ {M : Type 1} (𝓤 : URA M) (H : Heap 𝓤) (A : Atoms 𝓤) (W : Given
 
   goes-told : ent 𝓤 (⋆ 𝓤 H A (‵ (flft κ₀ q₀) ∷ ‵ OwnW ∷ [])) (Told 𝓤 H A at-mem run .pre to-told)
   goes-told =
-      qed W (‵ (flft κ₀ q₀) ∷ ‵ OwnW ∷ []) ∵ nothing ! $ move ! (2 ∷ 0 ∷ []) $ fjoin ! $ nothing ! $ move ! (2 ∷ 0 ∷ []) $ join ! $ join ! $ frame ! $ done !
+      qed W (‵ (flft κ₀ q₀) ∷ ‵ OwnW ∷ []) ∵ nothing ! $ move ! (2 ∷ 0 ∷ []) $ fjoin ! $ nothing ! $ move ! (2 ∷ 0 ∷ []) $ join ! $ join ! $ frame ! $
+      done !
 
   abbrev Args : Type 0
   Args = Settings × (RefT (List Obstacle) × (RefT (List ℕ) × Unit {0}))
@@ -167,16 +171,20 @@ module _ {M : Type 1} (𝓤 : URA M) (H : Heap 𝓤) (A : Atoms 𝓤) (W : Given
   abbrev to-operation : Set-no-slip 𝓤 H A at-mem run .Ghost
   to-operation = (((κ₁, (κ₂, tt)), (q₁, (q₂, tt)), tt, handed, (Set′.lowered s ∷ [], (v₁ ∷ [], (v₂ ∷ [], tt)))), tt)
 
-  goes-operation : good s → ent 𝓤 (⋆ 𝓤 H A ((‵ (flft κ₁ q₁) ⊛ ‵ (flft κ₂ q₂) ⊛ ‵ ftrue) ∷ ‵ OwnL ∷ ‵ (fsep OwnF ftrue) ∷ [])) (Set-no-slip 𝓤 H A at-mem run .pre to-operation)
+  goes-operation : good s → ent 𝓤 (⋆ 𝓤 H A ((‵ (flft κ₁ q₁) ⊛ ‵ (flft κ₂ q₂) ⊛ ‵ ftrue) ∷ ‵ OwnL ∷ ‵ (fsep OwnF ftrue) ∷ []))
+      (Set-no-slip 𝓤 H A at-mem run .pre to-operation)
   goes-operation s-good =
       qed W ((‵ (flft κ₁ q₁) ⊛ ‵ (flft κ₂ q₂) ⊛ ‵ ftrue) ∷ ‵ OwnL ∷ ‵ (fsep OwnF ftrue) ∷ []) ∵ move ! (1 ∷ 2 ∷ []) $ fjoin ! $
       owned ! SetR (Is SetR) (Struct.makes Set.the-type Set′.the-plain 𝓤 H A) s _ s-good $ fjoin ! $ move ! (1 ∷ 0 ∷ []) $ join ! $ frame ! $ done !
 
   exits : (r : ℕ) (v : Val) (zs : List ℕ) → Result r zs → length zs ≡ length ys
-      → ent 𝓤 (⋆ 𝓤 H A ((‵ (flft κ₀ q₀) ⊛ ‵ ftrue) ∷ (‵ (flft κ₁ q₁) ⊛ ‵ (flft κ₂ q₂) ⊛ ‵ ftrue) ∷ ‵ (finally u64 γ₂ zs) ∷ ‵ OwnL ∷ ‵ OwnW ∷ ‵ (u32 .own r (v ∷ [])) ∷ [])) (Post v)
+      → ent 𝓤 (⋆ 𝓤 H A ((‵ (flft κ₀ q₀) ⊛ ‵ ftrue) ∷ (‵ (flft κ₁ q₁) ⊛ ‵ (flft κ₂ q₂) ⊛ ‵ ftrue) ∷ ‵ (finally u64 γ₂ zs) ∷ ‵ OwnL ∷ ‵ OwnW
+      ∷ ‵ (u32 .own r (v ∷ [])) ∷ [])) (Post v)
   exits r v zs e l =
-      qed W ((‵ (flft κ₀ q₀) ⊛ ‵ ftrue) ∷ (‵ (flft κ₁ q₁) ⊛ ‵ (flft κ₂ q₂) ⊛ ‵ ftrue) ∷ ‵ (finally u64 γ₂ zs) ∷ ‵ OwnL ∷ ‵ OwnW ∷ ‵ (u32 .own r (v ∷ [])) ∷ []) ∵
-      suffices ! _ (ends-at 𝓤 H A own.ended stayed (own.clauses 𝓤 H A at-mem run) W (((κ₀, (κ₁, (κ₂, tt))), (q₀, (q₁, (q₂, tt))), bounds, a, at), tt) v r (tt, (tt, (zs, tt))) (tt, (tt, (l, tt)))) $ says ! e $
+      qed W ((‵ (flft κ₀ q₀) ⊛ ‵ ftrue) ∷ (‵ (flft κ₁ q₁) ⊛ ‵ (flft κ₂ q₂) ⊛ ‵ ftrue) ∷ ‵ (finally u64 γ₂ zs) ∷ ‵ OwnL ∷ ‵ OwnW
+      ∷ ‵ (u32 .own r (v ∷ [])) ∷ []) ∵
+      suffices ! _ (ends-at 𝓤 H A own.ended stayed (own.clauses 𝓤 H A at-mem run) W (((κ₀, (κ₁, (κ₂, tt))), (q₀, (q₁, (q₂, tt))), bounds, a, at), tt)
+      v r (tt, (tt, (zs, tt))) (tt, (tt, (l, tt)))) $ says ! e $
       split ! $ move ! (1 ∷ []) $ drop ! $ join ! $ frame ! $
       nothing ! $ move ! (1 ∷ 0 ∷ []) $ fjoin ! $ move ! (1 ∷ 0 ∷ []) $ fjoin ! $ move ! (1 ∷ 0 ∷ []) $ fjoin ! $ done !
 
@@ -187,38 +195,57 @@ module _ {M : Type 1} (𝓤 : URA M) (H : Heap 𝓤) (A : Atoms 𝓤) (W : Given
   machine r v is e = ap only (Set′.lowers .val-is r _ is) ∙ ap Set′.lowered e
 
   walk : (𝓣 : Tables 𝓤 H) → Triple 𝓤 (𝓣 .C #settings) (Told 𝓤 H A at-mem run) → Triple 𝓤 (𝓣 .C #operation) (Set-no-slip 𝓤 H A at-mem run)
-      → ent 𝓤 (onEntry 𝓤 H A own.signature (κ₀, (κ₁, (κ₂, tt))) (q₀, (q₁, (q₂, tt))) a at) (WpFn 𝓤 H (𝓣 .C) (𝓣 .Λ) code.function (v₀ ∷ v₁ ∷ v₂ ∷ []) Post)
+      → ent 𝓤 (onEntry 𝓤 H A own.signature (κ₀, (κ₁, (κ₂, tt))) (q₀, (q₁, (q₂, tt))) a at)
+      (WpFn 𝓤 H (𝓣 .C) (𝓣 .Λ) code.function (v₀ ∷ v₁ ∷ v₂ ∷ []) Post)
   walk 𝓣 known-settings known-operation =
-      qed W ((‵ (flft κ₀ q₀) ⊛ ‵ (flft κ₁ q₁) ⊛ ‵ (flft κ₂ q₂) ⊛ ‵ ftrue) ∷ ‵ (owns (ShrRef (named 0) κ₀ WordsR ∷ ShrSlice (named 1) κ₁ ObsR ∷ MutSlice (named 2) κ₂ u64 ∷ []) a at) ∷ []) ∵
+      qed W ((‵ (flft κ₀ q₀) ⊛ ‵ (flft κ₁ q₁) ⊛ ‵ (flft κ₂ q₂) ⊛ ‵ ftrue)
+      ∷ ‵ (owns (ShrRef (named 0) κ₀ WordsR ∷ ShrSlice (named 1) κ₁ ObsR ∷ MutSlice (named 2) κ₂ u64 ∷ []) a at) ∷ []) ∵
       enter ! (𝓣 .C) (𝓣 .Λ) code.function (v₀ ∷ v₁ ∷ v₂ ∷ []) _ $
       alloc1 ! (λ l₀. alloc1 ! (λ l₁. alloc1 ! (λ l₂. alloc1 ! (λ l₃. alloc1 ! (λ l₄. alloc1 ! (λ l₅. alloc1 ! (λ l₆. alloc0 ! $ params1 ! $
       pass1 ! (init ! (local 12 1) refl (tt, tt)) $ pass1 ! (init ! (local 12 2) refl (tt, (tt, (record { fits = room₁ .0 }, tt)))) $
       pass1 ! (init ! (local 12 3) refl (tt, (tt, (record { fits = room₂ .0 }, tt)))) $ pass0 ! $
       -- [the locals, of which local 0 stands at 12; the tokens; what the parameters own]
-      move ! (14 ∷ 15 ∷ []) $ split ! $ move ! (2 ∷ []) $ fsplit ! $ use1 W (‵ OwnW ⊛ ‵ OwnW) (shr-copy 𝓤 H A W (named 0) κ₀ WordsR .twice w (v₀ ∷ [])) $ split ! $
+      move ! (14 ∷ 15 ∷ []) $ split ! $ move ! (2 ∷ []) $ fsplit ! $
+      use1 W (‵ OwnW ⊛ ‵ OwnW) (shr-copy 𝓤 H A W (named 0) κ₀ WordsR .twice w (v₀ ∷ [])) $ split ! $
       move ! (3 ∷ 0 ∷ []) $ use2 W (raw (Told 𝓤 H A at-mem run .pre to-told)) goes-told $
       -- [what `settings_of` asks; the words; the other two; their tokens; the locals, of which local 0 stands at 16]
-      calls-at ! (fmOf 𝓤 H (W .laws) 𝓣) (Told 𝓤 H A at-mem run) known-settings to-told (and-then ! (load ! (from ! (stop !)) (look ! (local 16 1) refl)) (no-more !)) (λ v.
-      use1 W (later (some (λ (r : Settings). ((‵ (flft κ₀ q₀) ⊛ ‵ ftrue) ⊛ ‵ (SetR .own r (v ∷ []))) ⊛ raw (ensured 𝓤 H A settings.ended (settings.clauses 𝓤 H A at-mem run) (κ₀, tt) (w, tt) tt r)))) (id⊢ 𝓤 _) $ await ! tt $ pick ! (λ r.
-      split ! $ move ! (1 ∷ []) $ use1 W (raw (fact 𝓤 (r ≡ s))) (settings-are 𝓤 H A at-mem run κ₀ w r) $ heard ! (r ≡ s) (λ e. split ! $ move ! (1 ∷ []) $
+      calls-at ! (fmOf 𝓤 H (W .laws) 𝓣) (Told 𝓤 H A at-mem run) known-settings to-told
+      (and-then ! (load ! (from ! (stop !)) (look ! (local 16 1) refl)) (no-more !)) (λ v.
+      use1 W (later (some (λ (r : Settings). ((‵ (flft κ₀ q₀) ⊛ ‵ ftrue) ⊛ ‵ (SetR .own r (v ∷ []))) ⊛ raw
+      (ensured 𝓤 H A settings.ended (settings.clauses 𝓤 H A at-mem run) (κ₀, tt) (w, tt) tt r)))) (id⊢ 𝓤 _) $ await ! tt $ pick ! (λ r.
+      split ! $ move ! (1 ∷ []) $ use1 W (raw (fact 𝓤 (r ≡ s))) (settings-are 𝓤 H A at-mem run κ₀ w r) $
+      heard ! (r ≡ s) (λ e. split ! $ move ! (1 ∷ []) $
       peeks ! SetR (Is SetR) (shows 𝓤 H A SetR) r (v ∷ []) (λ is.
       land ! (from ! (stop !)) (init ! (local 17 4) refl (Struct.lawful Set.the-type Set′.the-laws 𝓤 H A W .typed r _ is .0)) $ drop ! $
       -- [the words' token; the words; the other two; their tokens; the locals, of which local 0 stands at 16]
       rewrite ! (local 16 4) (λ (x : Val). ‵ (fat fullShare Set′.mir l₄ 0 x)) (machine r v is e) refl $
-      assigns ! (addr ! (from ! (fld ! refl (hop ! (look-in ! (local 16 3) (sub ! 0 refl (whole !))) (stop !))))) (from ! (stop !)) (init ! (local 16 5) refl (tt, tt)) $
-      assigns ! (agg ! (and-then ! (load ! (from ! (stop !)) (look ! (local 16 5) refl)) (and-then ! (load ! (from ! (fld ! refl (stop !))) (look-in ! (local 16 3) (sub ! 1 refl (whole !)))) (no-more !)))) (from ! (stop !)) (init ! (local 16 6) refl (tt, (tt, (record { fits = room₂ .0 }, tt)))) $
-      move ! (2 ∷ []) $ fsplit ! $ use1 W (‵ OwnL ⊛ ‵ OwnL) (shr-slice-copy 𝓤 H A W (named 1) κ₁ ObsR .twice list (v₁ ∷ [])) $ split ! $ move ! (5 ∷ 0 ∷ 2 ∷ []) $
+      assigns ! (addr ! (from ! (fld ! refl (hop ! (look-in ! (local 16 3) (sub ! 0 refl (whole !))) (stop !))))) (from ! (stop !))
+      (init ! (local 16 5) refl (tt, tt)) $
+      assigns ! (agg ! (and-then ! (load ! (from ! (stop !)) (look ! (local 16 5) refl))
+      (and-then ! (load ! (from ! (fld ! refl (stop !))) (look-in ! (local 16 3) (sub ! 1 refl (whole !)))) (no-more !)))) (from ! (stop !))
+      (init ! (local 16 6) refl (tt, (tt, (record { fits = room₂ .0 }, tt)))) $
+      move ! (2 ∷ []) $ fsplit ! $ use1 W (‵ OwnL ⊛ ‵ OwnL) (shr-slice-copy 𝓤 H A W (named 1) κ₁ ObsR .twice list (v₁ ∷ [])) $ split ! $
+      move ! (5 ∷ 0 ∷ 2 ∷ []) $
       use3 W (raw (Set-no-slip 𝓤 H A at-mem run .pre to-operation)) (goes-operation (settled r v is e)) $
       -- [what the operation asks; the list; the words' token; the words; the locals, of which local 0 stands at 16]
-      calls-at ! (fmOf 𝓤 H (W .laws) 𝓣) (Set-no-slip 𝓤 H A at-mem run) known-operation to-operation (and-then ! (load ! (from ! (stop !)) (look ! (local 16 4) refl)) (and-then ! (load ! (from ! (stop !)) (look ! (local 16 2) refl)) (and-then ! (load ! (from ! (stop !)) (look ! (local 16 6) refl)) (no-more !)))) (λ x.
-      use1 W (later (some (λ (n : ℕ). ((‵ (flft κ₁ q₁) ⊛ ‵ (flft κ₂ q₂) ⊛ ‵ ftrue) ⊛ ‵ (u32 .own n (x ∷ []))) ⊛ raw (ensured 𝓤 H A operation.ended (operation.clauses 𝓤 H A at-mem run) (κ₁, (κ₂, tt)) handed tt n)))) (id⊢ 𝓤 _) $ await ! tt $ pick ! (λ n.
-      split ! $ move ! (1 ∷ []) $ use1 W (some (λ (zs : Unit {0} × (Unit {0} × (List ℕ × Unit {0}))). ‵ (lasts operation.ended (κ₁, (κ₂, tt)) handed zs) ⊛ raw (fact 𝓤 (Result n (zs .1 .1 .0))))) (id⊢ 𝓤 _) $ pick ! (λ zs.
-      split ! $ move ! (1 ∷ []) $ heard ! (Result n (zs .1 .1 .0)) (λ done-so. fsplit ! $ drop ! $ fsplit ! $ drop ! $ fsplit ! $ fsplit ! $ move ! (1 ∷ []) $ feqL ! (λ l.
+      calls-at ! (fmOf 𝓤 H (W .laws) 𝓣) (Set-no-slip 𝓤 H A at-mem run) known-operation to-operation
+      (and-then ! (load ! (from ! (stop !)) (look ! (local 16 4) refl))
+      (and-then ! (load ! (from ! (stop !)) (look ! (local 16 2) refl))
+      (and-then ! (load ! (from ! (stop !)) (look ! (local 16 6) refl)) (no-more !)))) (λ x.
+      use1 W (later (some (λ (n : ℕ). ((‵ (flft κ₁ q₁) ⊛ ‵ (flft κ₂ q₂) ⊛ ‵ ftrue) ⊛ ‵ (u32 .own n (x ∷ []))) ⊛ raw
+      (ensured 𝓤 H A operation.ended (operation.clauses 𝓤 H A at-mem run) (κ₁, (κ₂, tt)) handed tt n)))) (id⊢ 𝓤 _) $ await ! tt $ pick ! (λ n.
+      split ! $ move ! (1 ∷ []) $ use1 W
+      (some (λ (zs : Unit {0} × (Unit {0} × (List ℕ × Unit {0}))). ‵ (lasts operation.ended (κ₁, (κ₂, tt)) handed zs) ⊛ raw
+      (fact 𝓤 (Result n (zs .1 .1 .0))))) (id⊢ 𝓤 _) $ pick ! (λ zs.
+      split ! $ move ! (1 ∷ []) $ heard ! (Result n (zs .1 .1 .0))
+      (λ done-so. fsplit ! $ drop ! $ fsplit ! $ drop ! $ fsplit ! $ fsplit ! $ move ! (1 ∷ []) $ feqL ! (λ l.
       -- [the last list; …; the tokens and the result; the list; the words' token; the words; the locals]
       move ! (2 ∷ []) $ split ! $ move ! (1 ∷ []) $ peeks ! u32 (Is u32) (shows 𝓤 H A u32) n (x ∷ []) (λ number.
       land ! (from ! (stop !)) (init ! (local 19 0) refl (uint-lawful 𝓤 H A W w32 .typed n _ number .0)) $
-      returns ! (look ! (local 19 0) refl) $ forget ! (local 19 6) refl $ forget ! (local 19 5) refl $ forget ! (local 19 4) refl $ forget ! (local 19 3) refl $ forget ! (local 19 2) refl $ forget ! (local 19 1) refl $ forget ! (local 19 0) refl $
-      move ! (19 ∷ 20 ∷ []) $ free1 ! $ move ! (17 ∷ 18 ∷ []) $ free1 ! $ move ! (15 ∷ 16 ∷ []) $ free1 ! $ move ! (13 ∷ 14 ∷ []) $ free1 ! $ move ! (11 ∷ 12 ∷ []) $ free1 ! $ move ! (9 ∷ 10 ∷ []) $ free1 ! $ move ! (7 ∷ 8 ∷ []) $ free1 ! $ free0 ! $
+      returns ! (look ! (local 19 0) refl) $ forget ! (local 19 6) refl $ forget ! (local 19 5) refl $ forget ! (local 19 4) refl $
+      forget ! (local 19 3) refl $ forget ! (local 19 2) refl $ forget ! (local 19 1) refl $ forget ! (local 19 0) refl $
+      move ! (19 ∷ 20 ∷ []) $ free1 ! $ move ! (17 ∷ 18 ∷ []) $ free1 ! $ move ! (15 ∷ 16 ∷ []) $ free1 ! $ move ! (13 ∷ 14 ∷ []) $ free1 ! $
+      move ! (11 ∷ 12 ∷ []) $ free1 ! $ move ! (9 ∷ 10 ∷ []) $ free1 ! $ move ! (7 ∷ 8 ∷ []) $ free1 ! $ free0 ! $
       keep ! (5 ∷ 1 ∷ 2 ∷ 4 ∷ 6 ∷ 0 ∷ []) $ by ! (exits n x (zs .1 .1 .0) done-so l))))))))))))))))))
 
 -- ---- the function
@@ -238,8 +265,10 @@ module _ {M : Type 1} (𝓤 : URA M) (H : Heap 𝓤) (A : Atoms 𝓤) (W : Given
 
   meets : Meets 𝓤 H A own.signature (WpFn 𝓤 H (𝓣 .C) (𝓣 .Λ) code.function) (own.spec 𝓤 H A mem run)
   meets =
-      walk-meets 𝓤 H A own.ended stayed W
-      (goes-none-ref 𝓤 H A W 3 (0 ∷ []) tt words-slot yes, (goes-none-slice 𝓤 H A W 3 (1 ∷ []) tt (plain (λ _. ObsR)) yes, (goes-gave-slice 𝓤 H A W 3 2 tt (plain (λ _. u64)), tt)))
+      walk-meets 𝓤 H A own.ended stayed W (
+        goes-none-ref 𝓤 H A W 3 (0 ∷ []) tt words-slot yes,
+        (goes-none-slice 𝓤 H A W 3 (1 ∷ []) tt (plain (λ _. ObsR)) yes, (goes-gave-slice 𝓤 H A W 3 2 tt (plain (λ _. u64)), tt)),
+      )
       (own.clauses 𝓤 H A mem run) (WpFn 𝓤 H (𝓣 .C) (𝓣 .Λ) code.function) (WpFn-mono 𝓤 H (W .laws) 𝓣 code.function) walks
 
 pub brothwagon-set-no-slip-bc-spec : {M : Type 1} → stated.statement M
@@ -248,5 +277,7 @@ brothwagon-set-no-slip-bc-spec 𝓤 H 𝓜 𝓖 𝓡 =
     entered 𝓤 H (tripleOf 𝓤 H (𝓖 .A) own.signature (own.spec 𝓤 H (𝓖 .A) (𝓜 .mem) (𝓡 .run)))
     (tables 𝓤 H 𝓜 𝓡 code.env .C) (tables 𝓤 H 𝓜 𝓡 code.env .Λ) #own code.function (code.unfolded 𝓤 H 𝓜 𝓡)
     (meets 𝓤 H (𝓖 .A) (givenOf 𝓤 H 𝓜 𝓖) (𝓜 .mem) (𝓡 .run) (tablesOf 𝓤 H 𝓜 (tables 𝓤 H 𝓜 𝓡 code.env))
-    (cited 𝓤 H (Told 𝓤 H (𝓖 .A) (𝓜 .mem) (𝓡 .run)) 𝓜 𝓡 code.env #settings settings-def.routine code.calls-host·settings-of (settings-thm.met 𝓤 H 𝓜 𝓖 𝓡))
-    (cited 𝓤 H (Set-no-slip 𝓤 H (𝓖 .A) (𝓜 .mem) (𝓡 .run)) 𝓜 𝓡 code.env #operation operation-def.routine code.calls-obstacles·set-no-slip-bc (operation-thm.met 𝓤 H 𝓜 𝓖 𝓡)))
+    (cited 𝓤 H (Told 𝓤 H (𝓖 .A) (𝓜 .mem) (𝓡 .run)) 𝓜 𝓡 code.env #settings settings-def.routine code.calls-host·settings-of
+    (settings-thm.met 𝓤 H 𝓜 𝓖 𝓡))
+    (cited 𝓤 H (Set-no-slip 𝓤 H (𝓖 .A) (𝓜 .mem) (𝓡 .run)) 𝓜 𝓡 code.env #operation operation-def.routine code.calls-obstacles·set-no-slip-bc
+    (operation-thm.met 𝓤 H 𝓜 𝓖 𝓡)))

@@ -209,7 +209,8 @@ module _ {M : Type 1} (𝓤 : URA M) (H : Heap 𝓤) (A : Atoms 𝓤) (W : Given
       → ent 𝓤 (⋆ 𝓤 H A (‵ (flft κ₀ q₀) ∷ ‵ (OwnF zs) ∷ ‵ (flft κ₁ q₁) ∷ ‵ OwnL ∷ [])) (Post (vint w32 r))
   exits r zs r-fits e is =
       qed W (‵ (flft κ₀ q₀) ∷ ‵ (OwnF zs) ∷ ‵ (flft κ₁ q₁) ∷ ‵ OwnL ∷ []) ∵
-      suffices ! _ (ends-at 𝓤 H A own.ended stayed (own.clauses 𝓤 H A at-mem run) W (((κ₀, (κ₁, tt)), (q₀, (q₁, tt)), bounds, a, at), tt) (vint w32 r) r (tt, (tt, (zs, tt))) (tt, (tt, (e, tt)))) $ says ! is $
+      suffices ! _ (ends-at 𝓤 H A own.ended stayed (own.clauses 𝓤 H A at-mem run) W (((κ₀, (κ₁, tt)), (q₀, (q₁, tt)), bounds, a, at), tt) (vint w32 r)
+      r (tt, (tt, (zs, tt))) (tt, (tt, (e, tt)))) $ says ! is $
       nothing ! $ move ! (3 ∷ 0 ∷ []) $ join ! $ move ! (1 ∷ 0 ∷ []) $ join ! $ frame ! $
       nothing ! $ move ! (1 ∷ 0 ∷ []) $ fjoin ! $ move ! (1 ∷ 0 ∷ []) $ fjoin ! $
       owned ! SetR (Is SetR) (Struct.makes Set.the-type Set′.the-plain 𝓤 H A) s _ s-good $ fjoin ! $
@@ -226,14 +227,25 @@ module _ {M : Type 1} (𝓤 : URA M) (H : Heap 𝓤) (A : Atoms 𝓤) (W : Given
       owned ! usize (Is usize) (uint-makes 𝓤 H A W w64) nx _ (refl, nx-fits) $ fjoin ! $ nothing ! $ join ! $ frame ! $ done !
 
   -- what `visit`'s triple binds outside, and what it asks: the populations are lent for the lifetime ν, under the name δ
-  module _ (j : ℕ) (j-fits : j < 2 ^ 64) (o : Obstacle) (o-good : Is ObsR o (Obs′.lowered o ∷ [])) (r : Seen) (r-good : good r) (l : List ℕ) (ν : ℕ) (δ : GName) where
+  module _ (j : ℕ) (j-fits : j < 2 ^ 64) (o : Obstacle) (o-good : Is ObsR o (Obs′.lowered o ∷ [])) (r : Seen) (r-good : good r) (l : List ℕ) (ν : ℕ)
+      (δ : GName) where
     abbrev to : ℕ × (ℕ × (ℕ × (ℕ × (Obstacle × (Seen × (RefT (List ℕ) × Unit {0}))))))
     to = (nx, (ny, (n, (j, (o, (r, (f δ l, tt)))))))
 
     abbrev to-visit : Visit 𝓤 H A at-mem run .Ghost
-    to-visit = (((ν ∷ [], tt), (fullShare, tt), tt, to, (vint w64 nx ∷ [], (vint w64 ny ∷ [], (vint w64 n ∷ [], (vint w64 j ∷ [], (Obs′.lowered o ∷ [], (See′.lowered r ∷ [], (v₁ ∷ [], tt)))))))), tt)
+    to-visit = (
+      (
+        (ν ∷ [], tt),
+        (fullShare, tt),
+        tt,
+        to,
+        (vint w64 nx ∷ [], (vint w64 ny ∷ [], (vint w64 n ∷ [], (vint w64 j ∷ [], (Obs′.lowered o ∷ [], (See′.lowered r ∷ [], (v₁ ∷ [], tt))))))),
+      ),
+      tt,
+    )
 
-    goes-visit : ent 𝓤 (sep 𝓤 (A .lft (ν ∷ []) fullShare) (sem 𝓤 H A (MutSlice (named 0) (ν ∷ []) u64 .own (f δ l) (v₁ ∷ [])))) (Visit 𝓤 H A at-mem run .pre to-visit)
+    goes-visit : ent 𝓤 (sep 𝓤 (A .lft (ν ∷ []) fullShare) (sem 𝓤 H A (MutSlice (named 0) (ν ∷ []) u64 .own (f δ l) (v₁ ∷ []))))
+        (Visit 𝓤 H A at-mem run .pre to-visit)
     goes-visit =
         qed W (‵ (flft (ν ∷ []) fullShare) ∷ ‵ (MutSlice (named 0) (ν ∷ []) u64 .own (f δ l) (v₁ ∷ [])) ∷ []) ∵
         nothing ! $ move ! (2 ∷ 0 ∷ []) $ fjoin ! $
@@ -285,7 +297,8 @@ module _ {M : Type 1} (𝓤 : URA M) (H : Heap 𝓤) (A : Atoms 𝓤) (W : Given
     At u =
         ‵ (row ObsR q′ os b₀ o₀) ∷ ‵ (Lies (now-at (u .j) .buffer)) ∷ ‵ Open ∷ ‵ (was γ₁) ∷ ‵ (is-now γ₁)
         ∷ ‵ (fobor κ₀ q₀ (arr-parts (shares ObsR) n .part q′ os b₀ o₀)) ∷ ‵ OwnL
-        ∷ ‵ (froom (sliceTy ref) l₁₆ 0) ∷ ‵ (fdies (sliceTy ref) l₁₆) ∷ ‵ (froom ref l₁₅ 0) ∷ ‵ (fdies ref l₁₅) ∷ ‵ (froom Obs′.mir l₁₄ 0) ∷ ‵ (fdies Obs′.mir l₁₄)
+        ∷ ‵ (froom (sliceTy ref) l₁₆ 0) ∷ ‵ (fdies (sliceTy ref) l₁₆) ∷ ‵ (froom ref l₁₅ 0) ∷ ‵ (fdies ref l₁₅) ∷ ‵ (froom Obs′.mir l₁₄ 0)
+        ∷ ‵ (fdies Obs′.mir l₁₄)
         ∷ ‵ (froom tyPtr l₁₃ 0) ∷ ‵ (fdies tyPtr l₁₃) ∷ ‵ (froom word l₁₂ 0) ∷ ‵ (fdies word l₁₂) ∷ ‵ (froom tyBool l₁₁ 0) ∷ ‵ (fdies tyBool l₁₁)
         ∷ ‵ (froom word l₁₀ 0) ∷ ‵ (fdies word l₁₀) ∷ ‵ (froom word l₉ 0) ∷ ‵ (fdies word l₉)
         ∷ ‵ (fat fullShare word l₈ 0 (vint w64 (u .j))) ∷ ‵ (fdies word l₈)
@@ -297,24 +310,36 @@ module _ {M : Type 1} (𝓤 : URA M) (H : Heap 𝓤) (A : Atoms 𝓤) (W : Given
 
     -- a turn's postcondition: it ends nearer to the last, or the loop is left and the rest of the body runs
     abbrev Turned : Done → Out → SProp 𝓤
-    Turned u = afterTurn 𝓤 H (Below 𝓤 H A Nearer At u) (afterBlock 𝓤 H (afterSeq 𝓤 H (Wp 𝓤 H C Λ En code.Mir.t-8 (atReturn 𝓤 H En Post)) (atReturn 𝓤 H En Post)))
+    Turned u = afterTurn 𝓤 H (Below 𝓤 H A Nearer At u)
+        (afterBlock 𝓤 H (afterSeq 𝓤 H (Wp 𝓤 H C Λ En code.Mir.t-8 (atReturn 𝓤 H En Post)) (atReturn 𝓤 H En Post)))
 
     -- the turn that leaves the loop, and the rest of the body
     ends : (u : Done) → ltb (u .j) (n + n) ≡ false → Sq W (At u) (runs C Λ En code.Mir.turn-1 (anyQ (Turned u)))
     unfolding afterTurn
     ends u over =
-        assigns ! (bin ! (load ! (from ! (stop !)) (look ! (local 39 6) refl)) (load ! (from ! (stop !)) (look ! (local 39 6) refl)) (record { fits = both-fit })) (from ! (stop !)) (init ! (local 39 10) refl (tt, record { fits = both-fit })) $
-        assigns ! (bin ! (load ! (from ! (stop !)) (look ! (local 39 8) refl)) (load ! (from ! (stop !)) (look ! (local 39 10) refl)) tt) (from ! (stop !)) (init ! (local 39 11) refl (tt, tt)) $
+        assigns ! (bin ! (load ! (from ! (stop !)) (look ! (local 39 6) refl)) (load ! (from ! (stop !)) (look ! (local 39 6) refl))
+        (record { fits = both-fit })) (from ! (stop !)) (init ! (local 39 10) refl (tt, record { fits = both-fit })) $
+        assigns ! (bin ! (load ! (from ! (stop !)) (look ! (local 39 8) refl)) (load ! (from ! (stop !)) (look ! (local 39 10) refl)) tt)
+        (from ! (stop !)) (init ! (local 39 11) refl (tt, tt)) $
         rewrite ! (local 39 11) (λ (t : Bool). ‵ (fat fullShare tyBool l₁₁ 0 (vbool t))) over refl $
         leaves-loop ! (load ! (from ! (stop !)) (look ! (local 39 11) refl)) $ exec ! C Λ En code.Mir.t-8 (atRet En Post) $
-        assigns ! (of-opd ! (load ! (from ! (fld ! refl (stop !))) (look-in ! (local 39 7) (sub ! 0 refl (whole !))))) (from ! (stop !)) (init ! (local 39 0) refl (tt, record { fits = number-fits })) $
+        assigns ! (of-opd ! (load ! (from ! (fld ! refl (stop !))) (look-in ! (local 39 7) (sub ! 0 refl (whole !))))) (from ! (stop !))
+        (init ! (local 39 0) refl (tt, record { fits = number-fits })) $
         -- both borrows are shut
-        move ! (0 ∷ 5 ∷ []) $ shuts-slice ! tt ObsR q′ os b₀ o₀ $ move ! (1 ∷ []) $ use1 W (‵ (row u64 fullShare zs b₁ o₁)) (whole-out 𝓤 H A W u64 zs b₁ o₁) $
+        move ! (0 ∷ 5 ∷ []) $ shuts-slice ! tt ObsR q′ os b₀ o₀ $ move ! (1 ∷ []) $
+        use1 W (‵ (row u64 fullShare zs b₁ o₁)) (whole-out 𝓤 H A W u64 zs b₁ o₁) $
         move ! (0 ∷ 2 ∷ 3 ∷ 4 ∷ []) $ closes-slice ! tt u64 ys zs (u .same-size) b₁ o₁ $
-        fjoin ! $ pureI ! (at-slice u64 (f γ₁ zs) (v₁ ∷ [])) (tt, (tt, tt)) (ap (λ (m : ℕ). sliceVal (b₁, o₁) m ∷ []) (sym (u .same-size)), subst (Room u64) (sym (u .same-size)) room₁) $ fjoin ! $
+        fjoin ! $ pureI ! (at-slice u64 (f γ₁ zs) (v₁ ∷ [])) (tt, (tt, tt))
+        (ap (λ (m : ℕ). sliceVal (b₁, o₁) m ∷ []) (sym (u .same-size)), subst (Room u64) (sym (u .same-size)) room₁) $ fjoin ! $
         -- [the populations; their token; the list's; the list; the locals, of which local 0 stands at 36]
-        returns ! (look ! (local 36 0) refl) $ forget ! (local 36 11) refl $ forget ! (local 36 10) refl $ forget ! (local 36 8) refl $ forget ! (local 36 7) refl $ forget ! (local 36 6) refl $ forget ! (local 36 5) refl $ forget ! (local 36 4) refl $ forget ! (local 36 3) refl $ forget ! (local 36 2) refl $ forget ! (local 36 1) refl $ forget ! (local 36 0) refl $
-        move ! (36 ∷ 37 ∷ []) $ free1 ! $ move ! (34 ∷ 35 ∷ []) $ free1 ! $ move ! (32 ∷ 33 ∷ []) $ free1 ! $ move ! (30 ∷ 31 ∷ []) $ free1 ! $ move ! (28 ∷ 29 ∷ []) $ free1 ! $ move ! (26 ∷ 27 ∷ []) $ free1 ! $ move ! (24 ∷ 25 ∷ []) $ free1 ! $ move ! (22 ∷ 23 ∷ []) $ free1 ! $ move ! (20 ∷ 21 ∷ []) $ free1 ! $ move ! (18 ∷ 19 ∷ []) $ free1 ! $ move ! (16 ∷ 17 ∷ []) $ free1 ! $ move ! (14 ∷ 15 ∷ []) $ free1 ! $ move ! (12 ∷ 13 ∷ []) $ free1 ! $ move ! (10 ∷ 11 ∷ []) $ free1 ! $ move ! (8 ∷ 9 ∷ []) $ free1 ! $ move ! (6 ∷ 7 ∷ []) $ free1 ! $ move ! (4 ∷ 5 ∷ []) $ free1 ! $ free0 ! $
+        returns ! (look ! (local 36 0) refl) $ forget ! (local 36 11) refl $ forget ! (local 36 10) refl $ forget ! (local 36 8) refl $
+        forget ! (local 36 7) refl $ forget ! (local 36 6) refl $ forget ! (local 36 5) refl $ forget ! (local 36 4) refl $
+        forget ! (local 36 3) refl $ forget ! (local 36 2) refl $ forget ! (local 36 1) refl $ forget ! (local 36 0) refl $
+        move ! (36 ∷ 37 ∷ []) $ free1 ! $ move ! (34 ∷ 35 ∷ []) $ free1 ! $ move ! (32 ∷ 33 ∷ []) $ free1 ! $ move ! (30 ∷ 31 ∷ []) $ free1 ! $
+        move ! (28 ∷ 29 ∷ []) $ free1 ! $ move ! (26 ∷ 27 ∷ []) $ free1 ! $ move ! (24 ∷ 25 ∷ []) $ free1 ! $ move ! (22 ∷ 23 ∷ []) $ free1 ! $
+        move ! (20 ∷ 21 ∷ []) $ free1 ! $ move ! (18 ∷ 19 ∷ []) $ free1 ! $ move ! (16 ∷ 17 ∷ []) $ free1 ! $ move ! (14 ∷ 15 ∷ []) $ free1 ! $
+        move ! (12 ∷ 13 ∷ []) $ free1 ! $ move ! (10 ∷ 11 ∷ []) $ free1 ! $ move ! (8 ∷ 9 ∷ []) $ free1 ! $ move ! (6 ∷ 7 ∷ []) $ free1 ! $
+        move ! (4 ∷ 5 ∷ []) $ free1 ! $ free0 ! $
         move ! (2 ∷ 0 ∷ 1 ∷ []) $ by ! (exits (now-at (u .j) .so-far .number) zs number-fits (u .same-size) done-all)
       where
         zs : List ℕ
@@ -346,47 +371,75 @@ module _ {M : Type 1} (𝓤 : URA M) (H : Heap 𝓤) (A : Atoms 𝓤) (W : Given
     more : (u : Done) → ltb (u .j) (n + n) ≡ true → Sq W (At u) (runs C Λ En code.Mir.turn-1 (anyQ (Turned u)))
     unfolding afterTurn
     more u less =
-        assigns ! (bin ! (load ! (from ! (stop !)) (look ! (local 39 6) refl)) (load ! (from ! (stop !)) (look ! (local 39 6) refl)) (record { fits = both-fit })) (from ! (stop !)) (init ! (local 39 10) refl (tt, record { fits = both-fit })) $
-        assigns ! (bin ! (load ! (from ! (stop !)) (look ! (local 39 8) refl)) (load ! (from ! (stop !)) (look ! (local 39 10) refl)) tt) (from ! (stop !)) (init ! (local 39 11) refl (tt, tt)) $
-        rewrite ! (local 39 11) (λ (t : Bool). ‵ (fat fullShare tyBool l₁₁ 0 (vbool t))) less refl $ stays ! (load ! (from ! (stop !)) (look ! (local 39 11) refl)) $
+        assigns ! (bin ! (load ! (from ! (stop !)) (look ! (local 39 6) refl)) (load ! (from ! (stop !)) (look ! (local 39 6) refl))
+        (record { fits = both-fit })) (from ! (stop !)) (init ! (local 39 10) refl (tt, record { fits = both-fit })) $
+        assigns ! (bin ! (load ! (from ! (stop !)) (look ! (local 39 8) refl)) (load ! (from ! (stop !)) (look ! (local 39 10) refl)) tt)
+        (from ! (stop !)) (init ! (local 39 11) refl (tt, tt)) $
+        rewrite ! (local 39 11) (λ (t : Bool). ‵ (fat fullShare tyBool l₁₁ 0 (vbool t))) less refl $
+        stays ! (load ! (from ! (stop !)) (look ! (local 39 11) refl)) $
         -- the place of `list[j % n]`
-        assigns ! (bin ! (load ! (from ! (stop !)) (look ! (local 39 8) refl)) (load ! (from ! (stop !)) (look ! (local 39 6) refl)) some-left) (from ! (stop !)) (store ! (local 39 10) refl (tt, record { fits = k-fits })) $
-        assigns ! (bin ! (load ! (from ! (stop !)) (look ! (local 39 10) refl)) (lit ! tt) (record { fits = bytes-fit })) (from ! (stop !)) (init ! (local 39 12) refl (tt, record { fits = bytes-fit })) $
-        assigns ! (bin ! (load ! (from ! (fld ! refl (stop !))) (look-in ! (local 39 2) (sub ! 0 refl (whole !)))) (load ! (from ! (stop !)) (look ! (local 39 12) refl)) tt) (from ! (stop !)) (init ! (local 39 13) refl (tt, tt)) $
+        assigns ! (bin ! (load ! (from ! (stop !)) (look ! (local 39 8) refl)) (load ! (from ! (stop !)) (look ! (local 39 6) refl)) some-left)
+        (from ! (stop !)) (store ! (local 39 10) refl (tt, record { fits = k-fits })) $
+        assigns ! (bin ! (load ! (from ! (stop !)) (look ! (local 39 10) refl)) (lit ! tt) (record { fits = bytes-fit })) (from ! (stop !))
+        (init ! (local 39 12) refl (tt, record { fits = bytes-fit })) $
+        assigns ! (bin ! (load ! (from ! (fld ! refl (stop !))) (look-in ! (local 39 2) (sub ! 0 refl (whole !))))
+        (load ! (from ! (stop !)) (look ! (local 39 12) refl)) tt) (from ! (stop !)) (init ! (local 39 13) refl (tt, tt)) $
         rewrite ! (local 39 13) (λ (p : ℕ). ‵ (fat fullShare tyPtr l₁₃ 0 (vptr b₀ p))) (sym (place-is 16 o₀ k)) refl $
         -- the obstacle is taken out of the list, read, and put back
-        elem-out ! ObsR (Is ObsR) (shows 𝓤 H A ObsR) (Struct.vals Obs.the-type Obs′.the-laws) (Struct.tells Obs.the-type Obs′.the-laws) q′ os k nowhere b₀ o₀ within (λ g.
-        assigns ! (of-opd ! (load ! (from ! (hop ! (look ! (local 41 13) refl) (stop !))) (look-raw ! 0 refl))) (from ! (stop !)) (init ! (local 41 14) refl (Struct.lawful Obs.the-type Obs′.the-laws 𝓤 H A W .typed o _ g .0)) $
+        elem-out ! ObsR (Is ObsR) (shows 𝓤 H A ObsR) (Struct.vals Obs.the-type Obs′.the-laws) (Struct.tells Obs.the-type Obs′.the-laws) q′ os k
+        nowhere b₀ o₀ within (λ g.
+        assigns ! (of-opd ! (load ! (from ! (hop ! (look ! (local 41 13) refl) (stop !))) (look-raw ! 0 refl))) (from ! (stop !))
+        (init ! (local 41 14) refl (Struct.lawful Obs.the-type Obs′.the-laws 𝓤 H A W .typed o _ g .0)) $
         elem-back ! ObsR q′ os k nowhere (Obs′.lowered o ∷ []) b₀ o₀ within $
         -- what lies in the populations is lent for a lifetime ν of the call
-        assigns ! (addr ! (from ! (fld ! refl (hop ! (look-in ! (local 39 3) (sub ! 0 refl (whole !))) (stop !))))) (from ! (stop !)) (init ! (local 39 15) refl (tt, tt)) $
-        assigns ! (agg ! (and-then ! (load ! (from ! (stop !)) (look ! (local 39 15) refl)) (and-then ! (load ! (from ! (fld ! refl (stop !))) (look-in ! (local 39 3) (sub ! 1 refl (whole !)))) (no-more !)))) (from ! (stop !)) (init ! (local 39 16) refl (tt, (tt, (record { fits = room₁ .0 }, tt)))) $
+        assigns ! (addr ! (from ! (fld ! refl (hop ! (look-in ! (local 39 3) (sub ! 0 refl (whole !))) (stop !))))) (from ! (stop !))
+        (init ! (local 39 15) refl (tt, tt)) $
+        assigns ! (agg ! (and-then ! (load ! (from ! (stop !)) (look ! (local 39 15) refl))
+        (and-then ! (load ! (from ! (fld ! refl (stop !))) (look-in ! (local 39 3) (sub ! 1 refl (whole !)))) (no-more !)))) (from ! (stop !))
+        (init ! (local 39 16) refl (tt, (tt, (record { fits = room₁ .0 }, tt)))) $
         lft-new ! tt (λ ν. move ! (2 ∷ []) $
-        use1 W (later (some (λ (δ : GName). ‵ (MutSlice (named 0) (ν ∷ []) u64 .own (f δ fs) (sliceVal (b₁, o₁) (length fs) ∷ [])) ⊛ ‵ (flent (ν ∷ []) (Held u64 (length fs) b₁ o₁ δ)))))
+        use1 W (later (some (λ (δ : GName). ‵ (MutSlice (named 0) (ν ∷ []) u64 .own (f δ fs) (sliceVal (b₁, o₁) (length fs) ∷ []))
+        ⊛ ‵ (flent (ν ∷ []) (Held u64 (length fs) b₁ o₁ δ)))))
         (lends-slice 𝓤 H A W u64 (named 0) (ν ∷ []) fs b₁ o₁ (subst (Room u64) (sym (u .same-size)) room₁)) $ await ! tt $ pick ! (λ δ. split ! $
         rewrite ! 0 (λ (m : ℕ). ‵ (MutSlice (named 0) (ν ∷ []) u64 .own (f δ fs) (sliceVal (b₁, o₁) m ∷ []))) (u .same-size) refl $
-        move ! (2 ∷ 0 ∷ []) $ use2 W (raw (Visit 𝓤 H A at-mem run .pre (to-visit (u .j) j-fits o g seen (u .seen-good) fs ν δ))) (goes-visit (u .j) j-fits o g seen (u .seen-good) fs ν δ) $
+        move ! (2 ∷ 0 ∷ []) $ use2 W (raw (Visit 𝓤 H A at-mem run .pre (to-visit (u .j) j-fits o g seen (u .seen-good) fs ν δ)))
+        (goes-visit (u .j) j-fits o g seen (u .seen-good) fs ν δ) $
         -- [what `visit` asks; what the populations are lent by; …; the locals, of which local 0 stands at 40]
         calls-at ! fm (Visit 𝓤 H A at-mem run) known-visit (to-visit (u .j) j-fits o g seen (u .seen-good) fs ν δ)
-        (and-then ! (load ! (from ! (stop !)) (look ! (local 40 4) refl)) (and-then ! (load ! (from ! (stop !)) (look ! (local 40 5) refl)) (and-then ! (load ! (from ! (stop !)) (look ! (local 40 6) refl)) (and-then ! (load ! (from ! (stop !)) (look ! (local 40 8) refl)) (and-then ! (load ! (from ! (stop !)) (look ! (local 40 14) refl)) (and-then ! (load ! (from ! (stop !)) (look ! (local 40 7) refl)) (and-then ! (load ! (from ! (stop !)) (look ! (local 40 16) refl)) (no-more !)))))))) (λ w.
-        use1 W (later (some (λ (r : Seen). ((‵ (flft (ν ∷ []) fullShare) ⊛ ‵ ftrue) ⊛ ‵ (SeeR .own r (w ∷ []))) ⊛ raw (ensured 𝓤 H A visit.ended (visit.clauses 𝓤 H A at-mem run) (ν ∷ [], tt) (to (u .j) j-fits o g seen (u .seen-good) fs ν δ) tt r)))) (id⊢ 𝓤 _) $ await ! tt $ pick ! (λ r.
+        (and-then ! (load ! (from ! (stop !)) (look ! (local 40 4) refl))
+        (and-then ! (load ! (from ! (stop !)) (look ! (local 40 5) refl))
+        (and-then ! (load ! (from ! (stop !)) (look ! (local 40 6) refl))
+        (and-then ! (load ! (from ! (stop !)) (look ! (local 40 8) refl))
+        (and-then ! (load ! (from ! (stop !)) (look ! (local 40 14) refl))
+        (and-then ! (load ! (from ! (stop !)) (look ! (local 40 7) refl))
+        (and-then ! (load ! (from ! (stop !)) (look ! (local 40 16) refl)) (no-more !)))))))) (λ w.
+        use1 W (later (some (λ (r : Seen). ((‵ (flft (ν ∷ []) fullShare) ⊛ ‵ ftrue) ⊛ ‵ (SeeR .own r (w ∷ []))) ⊛ raw
+        (ensured 𝓤 H A visit.ended (visit.clauses 𝓤 H A at-mem run) (ν ∷ [], tt) (to (u .j) j-fits o g seen (u .seen-good) fs ν δ) tt r))))
+        (id⊢ 𝓤 _) $ await ! tt $ pick ! (λ r.
         -- what `visit` ensures, at some last list
-        split ! $ move ! (1 ∷ []) $ use1 W (some (λ (zs : Unit {0} × (Unit {0} × (Unit {0} × (Unit {0} × (Unit {0} × (Unit {0} × (List ℕ × Unit {0}))))))).
-        ‵ (lasts visit.ended (ν ∷ [], tt) (to (u .j) j-fits o g seen (u .seen-good) fs ν δ) zs) ⊛ raw (fact 𝓤 (turn r (last zs) ≡ turned nx ny n (u .j) o (now-at (u .j)))))) (id⊢ 𝓤 _) $ pick ! (λ zs.
+        split ! $ move ! (1 ∷ []) $ use1 W
+        (some (λ (zs : Unit {0} × (Unit {0} × (Unit {0} × (Unit {0} × (Unit {0} × (Unit {0} × (List ℕ × Unit {0}))))))).
+        ‵ (lasts visit.ended (ν ∷ [], tt) (to (u .j) j-fits o g seen (u .seen-good) fs ν δ) zs) ⊛ raw
+        (fact 𝓤 (turn r (last zs) ≡ turned nx ny n (u .j) o (now-at (u .j)))))) (id⊢ 𝓤 _) $ pick ! (λ zs.
         split ! $ move ! (1 ∷ []) $ heard ! (turn r (last zs) ≡ turned nx ny n (u .j) o (now-at (u .j))) (λ e.
-        fsplit ! $ drop ! $ fsplit ! $ drop ! $ fsplit ! $ drop ! $ fsplit ! $ drop ! $ fsplit ! $ drop ! $ fsplit ! $ drop ! $ fsplit ! $ fsplit ! $ move ! (1 ∷ []) $ feqL ! (λ same.
+        fsplit ! $ drop ! $ fsplit ! $ drop ! $ fsplit ! $ drop ! $ fsplit ! $ drop ! $ fsplit ! $ drop ! $ fsplit ! $ drop ! $ fsplit ! $ fsplit ! $
+        move ! (1 ∷ []) $ feqL ! (λ same.
         move ! (2 ∷ []) $ split ! $ move ! (1 ∷ []) $ peeks ! SeeR (Is SeeR) (shows 𝓤 H A SeeR) r (w ∷ []) (λ is.
         land ! (from ! (stop !)) (store ! (local 43 7) refl (Struct.lawful See.the-type See′.the-laws 𝓤 H A W .typed r _ is .0)) $
         -- the lifetime is ended, and that list lies in the populations
         move ! (1 ∷ []) $ split ! $ lft-end ! tt $ move ! (0 ∷ 5 ∷ 3 ∷ []) $
-        use3 W (later (‵ (Arr (mem u64) (length fs) .lies (last zs) b₁ o₁))) (slice-back 𝓤 H A W u64 (ν ∷ []) δ (last zs) (length fs) b₁ o₁) $ await ! tt $ fsplit ! $ drop ! $
+        use3 W (later (‵ (Arr (mem u64) (length fs) .lies (last zs) b₁ o₁))) (slice-back 𝓤 H A W u64 (ν ∷ []) δ (last zs) (length fs) b₁ o₁) $
+        await ! tt $ fsplit ! $ drop ! $
         -- [the populations; …; what `visit` returned; …; the list's share; the open borrow; what shuts the list; the list; the locals, of which local 0 stands at 42]
-        assigns-last ! (bin ! (load ! (from ! (stop !)) (look ! (local 42 8) refl)) (lit ! tt) (record { fits = next-fits })) (from ! (stop !)) (store ! (local 42 8) refl (tt, record { fits = next-fits })) $
-        forget ! (local 42 16) refl $ forget ! (local 42 15) refl $ forget ! (local 42 14) refl $ forget ! (local 42 13) refl $ forget ! (local 42 12) refl $ forget ! (local 42 11) refl $ forget ! (local 42 10) refl $
+        assigns-last ! (bin ! (load ! (from ! (stop !)) (look ! (local 42 8) refl)) (lit ! tt) (record { fits = next-fits })) (from ! (stop !))
+        (store ! (local 42 8) refl (tt, record { fits = next-fits })) $
+        forget ! (local 42 16) refl $ forget ! (local 42 15) refl $ forget ! (local 42 14) refl $ forget ! (local 42 13) refl $
+        forget ! (local 42 12) refl $ forget ! (local 42 11) refl $ forget ! (local 42 10) refl $
         rewrite ! (local 42 8) (λ (i : ℕ). ‵ (fat fullShare word l₈ 0 (vint w64 i))) (add-one (u .j)) refl $
         rewrite ! (local 42 7) (λ (v : Val). ‵ (fat fullShare See′.mir l₇ 0 v)) (machine (u .j) r w (last zs) is e) refl $
         rewrite ! 0 (λ (l : List ℕ). ‵ (Lies l)) (ap (λ (t : Turn). t .buffer) (stepped (u .j) r (last zs) e)) refl $
-        keep ! (4 ∷ 0 ∷ 5 ∷ 6 ∷ 7 ∷ 8 ∷ 9 ∷ 10 ∷ 11 ∷ 12 ∷ 13 ∷ 14 ∷ 15 ∷ 16 ∷ 17 ∷ 18 ∷ 19 ∷ 20 ∷ 21 ∷ 22 ∷ 23 ∷ 24 ∷ 25 ∷ 26 ∷ 27 ∷ 28 ∷ 29 ∷ 30 ∷ 31 ∷ 32 ∷ 33 ∷ 34 ∷ 35 ∷ 36 ∷ 37 ∷ 38 ∷ 39 ∷ 40 ∷ 41 ∷ 42 ∷ 43 ∷ []) $
+        keep ! (4 ∷ 0 ∷ 5 ∷ 6 ∷ 7 ∷ 8 ∷ 9 ∷ 10 ∷ 11 ∷ 12 ∷ 13 ∷ 14 ∷ 15 ∷ 16 ∷ 17 ∷ 18 ∷ 19 ∷ 20 ∷ 21 ∷ 22 ∷ 23 ∷ 24 ∷ 25 ∷ 26 ∷ 27 ∷ 28 ∷ 29 ∷ 30
+        ∷ 31 ∷ 32 ∷ 33 ∷ 34 ∷ 35 ∷ 36 ∷ 37 ∷ 38 ∷ 39 ∷ 40 ∷ 41 ∷ 42 ∷ 43 ∷ []) $
         again ! Nearer At u (next r w (last zs) is e same) closer)))))))))
       where
         seen : Seen
@@ -422,11 +475,13 @@ module _ {M : Type 1} (𝓤 : URA M) (H : Heap 𝓤) (A : Atoms 𝓤) (W : Given
         next-fits : u .j + 1 < 2 ^ 64
         next-fits = omega (arith, j-less, both-fit)
 
-        next : (r : Seen) (w : Val) (gs : List ℕ) → Is SeeR r (w ∷ []) → turn r gs ≡ turned nx ny n (u .j) o (now-at (u .j)) → length gs ≡ length fs → Done
+        next : (r : Seen) (w : Val) (gs : List ℕ) → Is SeeR r (w ∷ []) → turn r gs ≡ turned nx ny n (u .j) o (now-at (u .j)) → length gs ≡ length fs
+            → Done
         next r w gs is e same = record {
           j = suc (u .j);
           most = omega (arith, j-less);
-          seen-good = subst good (ap (λ (t : Turn). t .so-far) (stepped (u .j) r gs e)) (subst (Is SeeR r) (Struct.tells See.the-type See′.the-laws r _ is) is);
+          seen-good = subst good (ap (λ (t : Turn). t .so-far) (stepped (u .j) r gs e))
+              (subst (Is SeeR r) (Struct.tells See.the-type See′.the-laws r _ is) is);
           same-size = ap (λ (t : Turn). length (t .buffer)) (sym (stepped (u .j) r gs e)) ∙ same ∙ u .same-size;
         }
 
@@ -458,55 +513,86 @@ module _ {M : Type 1} (𝓤 : URA M) (H : Heap 𝓤) (A : Atoms 𝓤) (W : Given
   buffer-begins = refl
 
   abbrev none-done : (r : Seen) (w : Val) → Is SeeR r (w ∷ []) → r ≡ begunOf nx ny len → Done
-  none-done r w is e = record { j = 0; most = omega arith; seen-good = begins-good r w is e; same-size = ap (λ (l : List ℕ). length l) (sym buffer-begins) }
+  none-done r w is e = record {
+    j = 0;
+    most = omega arith;
+    seen-good = begins-good r w is e;
+    same-size = ap (λ (l : List ℕ). length l)
+        (sym buffer-begins);
+  }
 
-  module _ (𝓣 : Tables 𝓤 H) (known-begun : Triple 𝓤 (𝓣 .C #begun) (Begun 𝓤 H A at-mem run)) (known-visit : Triple 𝓤 (𝓣 .C #visit) (Visit 𝓤 H A at-mem run))
+  module _ (𝓣 : Tables 𝓤 H) (known-begun : Triple 𝓤 (𝓣 .C #begun) (Begun 𝓤 H A at-mem run))
+      (known-visit : Triple 𝓤 (𝓣 .C #visit) (Visit 𝓤 H A at-mem run))
       (l₀ l₁ l₂ l₃ l₄ l₅ l₆ l₇ l₈ l₉ l₁₀ l₁₁ l₁₂ l₁₃ l₁₄ l₁₅ l₁₆ : ℕ) where
     -- on entry, once the parameters are in their locals
     abbrev Entered : List (Item 𝓤)
     Entered =
-        ‵ (froom (sliceTy ref) l₁₆ 0) ∷ ‵ (fdies (sliceTy ref) l₁₆) ∷ ‵ (froom ref l₁₅ 0) ∷ ‵ (fdies ref l₁₅) ∷ ‵ (froom Obs′.mir l₁₄ 0) ∷ ‵ (fdies Obs′.mir l₁₄)
+        ‵ (froom (sliceTy ref) l₁₆ 0) ∷ ‵ (fdies (sliceTy ref) l₁₆) ∷ ‵ (froom ref l₁₅ 0) ∷ ‵ (fdies ref l₁₅) ∷ ‵ (froom Obs′.mir l₁₄ 0)
+        ∷ ‵ (fdies Obs′.mir l₁₄)
         ∷ ‵ (froom tyPtr l₁₃ 0) ∷ ‵ (fdies tyPtr l₁₃) ∷ ‵ (froom word l₁₂ 0) ∷ ‵ (fdies word l₁₂) ∷ ‵ (froom tyBool l₁₁ 0) ∷ ‵ (fdies tyBool l₁₁)
         ∷ ‵ (froom word l₁₀ 0) ∷ ‵ (fdies word l₁₀) ∷ ‵ (froom word l₉ 0) ∷ ‵ (fdies word l₉) ∷ ‵ (froom word l₈ 0) ∷ ‵ (fdies word l₈)
         ∷ ‵ (froom See′.mir l₇ 0) ∷ ‵ (fdies See′.mir l₇) ∷ ‵ (froom word l₆ 0) ∷ ‵ (fdies word l₆) ∷ ‵ (froom word l₅ 0) ∷ ‵ (fdies word l₅)
-        ∷ ‵ (froom word l₄ 0) ∷ ‵ (fdies word l₄) ∷ ‵ (fat fullShare ty₃ l₃ 0 v₁) ∷ ‵ (fdies ty₃ l₃) ∷ ‵ (fat fullShare ty₂ l₂ 0 v₀) ∷ ‵ (fdies ty₂ l₂)
+        ∷ ‵ (froom word l₄ 0) ∷ ‵ (fdies word l₄) ∷ ‵ (fat fullShare ty₃ l₃ 0 v₁) ∷ ‵ (fdies ty₃ l₃) ∷ ‵ (fat fullShare ty₂ l₂ 0 v₀)
+        ∷ ‵ (fdies ty₂ l₂)
         ∷ ‵ (fat fullShare Set′.mir l₁ 0 (Set′.lowered s)) ∷ ‵ (fdies Set′.mir l₁) ∷ ‵ (froom (tyInt w32) l₀ 0) ∷ ‵ (fdies (tyInt w32) l₀)
         ∷ (‵ (flft κ₀ q₀) ⊛ ‵ (flft κ₁ q₁) ⊛ ‵ ftrue) ∷ ‵ (owns (SetR ∷ ShrSlice (named 0) κ₀ ObsR ∷ MutSlice (named 1) κ₁ u64 ∷ []) a at) ∷ []
 
     -- the body
-    body : Sq W Entered (runs (𝓣 .C) (𝓣 .Λ) (En 𝓣 known-visit fullShare l₀ l₁ l₂ l₃ l₄ l₅ l₆ l₇ l₈ l₉ l₁₀ l₁₁ l₁₂ l₁₃ l₁₄ l₁₅ l₁₆) code.Mir.t-1 (atRet (En 𝓣 known-visit fullShare l₀ l₁ l₂ l₃ l₄ l₅ l₆ l₇ l₈ l₉ l₁₀ l₁₁ l₁₂ l₁₃ l₁₄ l₁₅ l₁₆) Post))
+    body : Sq W Entered (runs (𝓣 .C) (𝓣 .Λ) (En 𝓣 known-visit fullShare l₀ l₁ l₂ l₃ l₄ l₅ l₆ l₇ l₈ l₉ l₁₀ l₁₁ l₁₂ l₁₃ l₁₄ l₁₅ l₁₆) code.Mir.t-1
+        (atRet (En 𝓣 known-visit fullShare l₀ l₁ l₂ l₃ l₄ l₅ l₆ l₇ l₈ l₉ l₁₀ l₁₁ l₁₂ l₁₃ l₁₄ l₁₅ l₁₆) Post))
     body =
         -- [the locals, of which local 0 stands at 32; the tokens; what the parameters own]
-        assigns ! (of-opd ! (load ! (from ! (fld ! refl (stop !))) (look-in ! (local 32 1) (sub ! 0 refl (whole !))))) (from ! (stop !)) (init ! (local 32 4) refl (tt, record { fits = nx-fits })) $
-        assigns ! (of-opd ! (load ! (from ! (fld ! refl (stop !))) (look-in ! (local 32 1) (sub ! 1 refl (whole !))))) (from ! (stop !)) (init ! (local 32 5) refl (tt, record { fits = ny-fits })) $
-        assigns ! (of-opd ! (load ! (from ! (fld ! refl (stop !))) (look-in ! (local 32 2) (sub ! 1 refl (whole !))))) (from ! (stop !)) (init ! (local 32 6) refl (tt, record { fits = room₀ .0 })) $
-        assigns ! (of-opd ! (load ! (from ! (fld ! refl (stop !))) (look-in ! (local 32 3) (sub ! 1 refl (whole !))))) (from ! (stop !)) (init ! (local 32 9) refl (tt, record { fits = room₁ .0 })) $
+        assigns ! (of-opd ! (load ! (from ! (fld ! refl (stop !))) (look-in ! (local 32 1) (sub ! 0 refl (whole !))))) (from ! (stop !))
+        (init ! (local 32 4) refl (tt, record { fits = nx-fits })) $
+        assigns ! (of-opd ! (load ! (from ! (fld ! refl (stop !))) (look-in ! (local 32 1) (sub ! 1 refl (whole !))))) (from ! (stop !))
+        (init ! (local 32 5) refl (tt, record { fits = ny-fits })) $
+        assigns ! (of-opd ! (load ! (from ! (fld ! refl (stop !))) (look-in ! (local 32 2) (sub ! 1 refl (whole !))))) (from ! (stop !))
+        (init ! (local 32 6) refl (tt, record { fits = room₀ .0 })) $
+        assigns ! (of-opd ! (load ! (from ! (fld ! refl (stop !))) (look-in ! (local 32 3) (sub ! 1 refl (whole !))))) (from ! (stop !))
+        (init ! (local 32 9) refl (tt, record { fits = room₁ .0 })) $
         use0 W (raw (Begun 𝓤 H A at-mem run .pre to-begun)) goes-begun $
-        calls-at ! (fmOf 𝓤 H (W .laws) 𝓣) (Begun 𝓤 H A at-mem run) known-begun to-begun (and-then ! (load ! (from ! (stop !)) (look ! (local 33 4) refl)) (and-then ! (load ! (from ! (stop !)) (look ! (local 33 5) refl)) (and-then ! (load ! (from ! (stop !)) (look ! (local 33 9) refl)) (no-more !)))) (λ w.
-        use1 W (later (some (λ (r : Seen). (‵ ftrue ⊛ ‵ (SeeR .own r (w ∷ []))) ⊛ raw (ensured 𝓤 H A begun.ended (begun.clauses 𝓤 H A at-mem run) tt (nx, (ny, (len, tt))) tt r)))) (id⊢ 𝓤 _) $ await ! tt $ pick ! (λ r.
-        split ! $ move ! (1 ∷ []) $ use1 W (raw (fact 𝓤 (r ≡ begunOf nx ny len))) (begun-of 𝓤 H A at-mem run nx ny len r) $ heard ! (r ≡ begunOf nx ny len) (λ e. split ! $ drop ! $
+        calls-at ! (fmOf 𝓤 H (W .laws) 𝓣) (Begun 𝓤 H A at-mem run) known-begun to-begun
+        (and-then ! (load ! (from ! (stop !)) (look ! (local 33 4) refl))
+        (and-then ! (load ! (from ! (stop !)) (look ! (local 33 5) refl))
+        (and-then ! (load ! (from ! (stop !)) (look ! (local 33 9) refl)) (no-more !)))) (λ w.
+        use1 W (later (some (λ (r : Seen). (‵ ftrue ⊛ ‵ (SeeR .own r (w ∷ []))) ⊛ raw
+        (ensured 𝓤 H A begun.ended (begun.clauses 𝓤 H A at-mem run) tt (nx, (ny, (len, tt))) tt r)))) (id⊢ 𝓤 _) $ await ! tt $ pick ! (λ r.
+        split ! $ move ! (1 ∷ []) $ use1 W (raw (fact 𝓤 (r ≡ begunOf nx ny len))) (begun-of 𝓤 H A at-mem run nx ny len r) $
+        heard ! (r ≡ begunOf nx ny len) (λ e. split ! $ drop ! $
         peeks ! SeeR (Is SeeR) (shows 𝓤 H A SeeR) r (w ∷ []) (λ is.
         land ! (from ! (stop !)) (init ! (local 33 7) refl (Struct.lawful See.the-type See′.the-laws 𝓤 H A W .typed r _ is .0)) $ drop ! $
-        rewrite ! (local 32 7) (λ (v : Val). ‵ (fat fullShare See′.mir l₇ 0 v)) (ap only (Struct.tells See.the-type See′.the-laws r _ is) ∙ ap See′.lowered (begins r e)) refl $
+        rewrite ! (local 32 7) (λ (v : Val). ‵ (fat fullShare See′.mir l₇ 0 v))
+        (ap only (Struct.tells See.the-type See′.the-laws r _ is) ∙ ap See′.lowered (begins r e)) refl $
         assigns ! (of-opd ! (lit ! tt)) (from ! (stop !)) (init ! (local 32 8) refl (tt, record { fits = lit< tt })) $ forget ! (local 32 9) refl $
         -- the list is Copy: one copy of what it owns is kept for the exit, and the other is looked into
-        move ! (35 ∷ []) $ fsplit ! $ drop ! $ fsplit ! $ use1 W (‵ OwnL ⊛ ‵ OwnL) (shr-slice-copy 𝓤 H A W (named 0) κ₀ ObsR .twice list (v₀ ∷ [])) $ split ! $
-        fsplit ! $ drop ! $ fsplit ! $ drop ! $ move ! (2 ∷ []) $ fsplit ! $ move ! (38 ∷ []) $ split ! $ move ! (1 ∷ []) $ split ! $ move ! (5 ∷ 2 ∷ []) $
-        looks-slice ! tt ObsR (Is ObsR) (shows 𝓤 H A ObsR) (Struct.vals Obs.the-type Obs′.the-laws) (Struct.tells Obs.the-type Obs′.the-laws) (Struct.copy Obs.the-type Obs′.the-copy 𝓤 H A W) os b₀ o₀ (λ q′.
+        move ! (35 ∷ []) $ fsplit ! $ drop ! $ fsplit ! $ use1 W (‵ OwnL ⊛ ‵ OwnL) (shr-slice-copy 𝓤 H A W (named 0) κ₀ ObsR .twice list (v₀ ∷ [])) $
+        split ! $
+        fsplit ! $ drop ! $ fsplit ! $ drop ! $ move ! (2 ∷ []) $ fsplit ! $ move ! (38 ∷ []) $ split ! $ move ! (1 ∷ []) $ split ! $
+        move ! (5 ∷ 2 ∷ []) $
+        looks-slice ! tt ObsR (Is ObsR) (shows 𝓤 H A ObsR) (Struct.vals Obs.the-type Obs′.the-laws) (Struct.tells Obs.the-type Obs′.the-laws)
+        (Struct.copy Obs.the-type Obs′.the-copy 𝓤 H A W) os b₀ o₀ (λ q′.
         -- [the list's share; what shuts it; …; the populations' token; …; the populations; …; the list; the locals]: the populations are opened
         move ! (5 ∷ 3 ∷ []) $ fsplit ! $ drop ! $ fsplit ! $ opens-slice ! tt u64 ys b₁ o₁ $
         use1 W (‵ (Lies ys)) (whole-in 𝓤 H A W u64 ys b₁ o₁) $ rewrite ! 0 (λ (l : List ℕ). ‵ (Lies l)) buffer-begins refl $
-        keep ! (4 ∷ 0 ∷ 1 ∷ 2 ∷ 3 ∷ 5 ∷ 9 ∷ 10 ∷ 11 ∷ 12 ∷ 13 ∷ 14 ∷ 15 ∷ 16 ∷ 17 ∷ 18 ∷ 19 ∷ 20 ∷ 21 ∷ 22 ∷ 23 ∷ 24 ∷ 25 ∷ 26 ∷ 27 ∷ 28 ∷ 29 ∷ 30 ∷ 31 ∷ 32 ∷ 33 ∷ 34 ∷ 35 ∷ 36 ∷ 37 ∷ 38 ∷ 39 ∷ 40 ∷ 41 ∷ 42 ∷ 43 ∷ []) $
+        keep ! (4 ∷ 0 ∷ 1 ∷ 2 ∷ 3 ∷ 5 ∷ 9 ∷ 10 ∷ 11 ∷ 12 ∷ 13 ∷ 14 ∷ 15 ∷ 16 ∷ 17 ∷ 18 ∷ 19 ∷ 20 ∷ 21 ∷ 22 ∷ 23 ∷ 24 ∷ 25 ∷ 26 ∷ 27 ∷ 28 ∷ 29 ∷ 30
+        ∷ 31 ∷ 32 ∷ 33 ∷ 34 ∷ 35 ∷ 36 ∷ 37 ∷ 38 ∷ 39 ∷ 40 ∷ 41 ∷ 42 ∷ 43 ∷ []) $
         by ! (looped 𝓣 known-visit q′ l₀ l₁ l₂ l₃ l₄ l₅ l₆ l₇ l₈ l₉ l₁₀ l₁₁ l₁₂ l₁₃ l₁₄ l₁₅ l₁₆ (none-done r w is e)))))))
 
   walk : (𝓣 : Tables 𝓤 H) → Triple 𝓤 (𝓣 .C #begun) (Begun 𝓤 H A at-mem run) → Triple 𝓤 (𝓣 .C #visit) (Visit 𝓤 H A at-mem run)
-      → ent 𝓤 (onEntry 𝓤 H A own.signature (κ₀, (κ₁, tt)) (q₀, (q₁, tt)) a at) (WpFn 𝓤 H (𝓣 .C) (𝓣 .Λ) code.function (Set′.lowered s ∷ v₀ ∷ v₁ ∷ []) Post)
+      → ent 𝓤 (onEntry 𝓤 H A own.signature (κ₀, (κ₁, tt)) (q₀, (q₁, tt)) a at)
+      (WpFn 𝓤 H (𝓣 .C) (𝓣 .Λ) code.function (Set′.lowered s ∷ v₀ ∷ v₁ ∷ []) Post)
   walk 𝓣 known-begun known-visit =
       qed W ((‵ (flft κ₀ q₀) ⊛ ‵ (flft κ₁ q₁) ⊛ ‵ ftrue) ∷ ‵ (owns (SetR ∷ ShrSlice (named 0) κ₀ ObsR ∷ MutSlice (named 1) κ₁ u64 ∷ []) a at) ∷ []) ∵
       enter ! (𝓣 .C) (𝓣 .Λ) code.function (Set′.lowered s ∷ v₀ ∷ v₁ ∷ []) _ $
-      alloc1 ! (λ l₀. alloc1 ! (λ l₁. alloc1 ! (λ l₂. alloc1 ! (λ l₃. alloc1 ! (λ l₄. alloc1 ! (λ l₅. alloc1 ! (λ l₆. alloc1 ! (λ l₇. alloc1 ! (λ l₈. alloc1 ! (λ l₉. alloc1 ! (λ l₁₀. alloc1 ! (λ l₁₁. alloc1 ! (λ l₁₂. alloc1 ! (λ l₁₃. alloc1 ! (λ l₁₄. alloc1 ! (λ l₁₅. alloc1 ! (λ l₁₆. alloc0 ! $ params1 ! $
+      alloc1 ! (λ l₀. alloc1 ! (λ l₁.
+      alloc1 ! (λ l₂. alloc1 ! (λ l₃.
+      alloc1 ! (λ l₄. alloc1 ! (λ l₅.
+      alloc1 ! (λ l₆. alloc1 ! (λ l₇.
+      alloc1 ! (λ l₈. alloc1 ! (λ l₉.
+      alloc1 ! (λ l₁₀. alloc1 ! (λ l₁₁. alloc1 ! (λ l₁₂. alloc1 ! (λ l₁₃. alloc1 ! (λ l₁₄. alloc1 ! (λ l₁₅. alloc1 ! (λ l₁₆. alloc0 ! $ params1 ! $
       pass1 ! (init ! (local 32 1) refl (Struct.lawful Set.the-type Set′.the-laws 𝓤 H A W .typed s _ s-good .0)) $
-      pass1 ! (init ! (local 32 2) refl (tt, (tt, (record { fits = room₀ .0 }, tt)))) $ pass1 ! (init ! (local 32 3) refl (tt, (tt, (record { fits = room₁ .0 }, tt)))) $ pass0 ! $
+      pass1 ! (init ! (local 32 2) refl (tt, (tt, (record { fits = room₀ .0 }, tt)))) $
+      pass1 ! (init ! (local 32 3) refl (tt, (tt, (record { fits = room₁ .0 }, tt)))) $ pass0 ! $
       body 𝓣 known-begun known-visit l₀ l₁ l₂ l₃ l₄ l₅ l₆ l₇ l₈ l₉ l₁₀ l₁₁ l₁₂ l₁₃ l₁₄ l₁₅ l₁₆)))))))))))))))))
 
 -- ---- the function
@@ -525,8 +611,10 @@ module _ {M : Type 1} (𝓤 : URA M) (H : Heap 𝓤) (A : Atoms 𝓤) (W : Given
 
   meets : Meets 𝓤 H A own.signature (WpFn 𝓤 H (𝓣 .C) (𝓣 .Λ) code.function) (own.spec 𝓤 H A mem run)
   meets =
-      walk-meets 𝓤 H A own.ended stayed W
-      (goes-none 𝓤 H A W 2 (λ _. SetR) yes (λ κs x f. refl), (goes-none-slice 𝓤 H A W 2 (0 ∷ []) tt (plain (λ _. ObsR)) yes, (goes-slice 𝓤 H A W 2 1 tt (plain (λ _. u64)), tt)))
+      walk-meets 𝓤 H A own.ended stayed W (
+        goes-none 𝓤 H A W 2 (λ _. SetR) yes (λ κs x f. refl),
+        (goes-none-slice 𝓤 H A W 2 (0 ∷ []) tt (plain (λ _. ObsR)) yes, (goes-slice 𝓤 H A W 2 1 tt (plain (λ _. u64)), tt)),
+      )
       (own.clauses 𝓤 H A mem run) (WpFn 𝓤 H (𝓣 .C) (𝓣 .Λ) code.function) (WpFn-mono 𝓤 H (W .laws) 𝓣 code.function) walks
 
 pub set-no-slip-bc-spec : {M : Type 1} → stated.statement M
