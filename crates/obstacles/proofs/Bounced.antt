@@ -1,14 +1,13 @@
--- One cell in its buffer: the nine entries that `turn` wrote are what the rule says of a list of one obstacle.
-use mathlib.Core.Path.{_≡_, refl, sym, ap, _∙_}
-use mathlib.Core.Bool.{Bool, true, false, _&&_, _||_}
+-- One cell in its buffer: the nine entries that `swap` wrote are what the rule says of a list of one obstacle.
+use mathlib.Core.Path.{_≡_, refl, sym, _∙_}
+use mathlib.Core.Bool.{Bool, true, false}
 use mathlib.Core.List.{List, [], _∷_}
 use Prim.Native.Nat.{ℕ, _+_, _*_, _<_}
-use native.Mathlib.Omega.{arith}
 use lib.Dec.{eqb}
 use lib.ListN.{length, getD}
 use borrow.Author.Tests.{eqb-true, eqb-false}
 use Rattle.lattice.specs.Lattice.{OPP}
-use Rattle.grid.specs.Grid.{fieldOf, Same}
+use Rattle.grid.specs.Grid.{fieldOf}
 use Rattle.grid.specs.Writes.{Put}
 use Rattle.grid.proofs.Radix.{within, low-inj, high-inj}
 use Rattle.grid.proofs.Fields.{is-buffer}

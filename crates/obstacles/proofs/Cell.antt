@@ -1,5 +1,5 @@
--- One cell: exchanges of two entries, one after the other, and that the four of `turn` are the opposites.
-use mathlib.Core.Path.{_≡_, refl, sym, ap, _∙_}
+-- One cell: exchanges of two entries, one after the other, and that the four of `swap` are the opposites.
+use mathlib.Core.Path.{_≡_, refl, ap, _∙_}
 use mathlib.Core.Bool.{Bool, true, false}
 use mathlib.Core.List.{List}
 use Prim.Native.Nat.{ℕ, _+_, _*_, _<_}
@@ -7,8 +7,7 @@ use native.Mathlib.Omega.{arith}
 use lib.Dec.{eqb}
 use lib.ListN.{length, getD, set, length-set}
 use lib.Seq.{getD-set-same, getD-set-other}
-use borrow.Author.Tests.{eqb-true, eqb-false, ltb-true}
-use lib.Dec.{ltb}
+use borrow.Author.Tests.{eqb-true, eqb-false}
 use Rattle.number.specs.Nine.{nine}
 use Rattle.number.proofs.Nine.{all-nine}
 use Rattle.lattice.specs.Lattice.{opposites, OPP}

@@ -1,6 +1,5 @@
 -- What the number of one obstacle tells where it is 0.
 use mathlib.Core.Path.{_≡_}
-use mathlib.Core.Bool.{cond}
 use Prim.Native.Nat.{ℕ, _*_, _≤_, _<_}
 use lib.Dec.{leb}
 use borrow.Author.Tests.{leb-false}

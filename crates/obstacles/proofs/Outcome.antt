@@ -17,7 +17,7 @@ use Rattle.settings.specs.Outcome.{outcome, answer}
 use Rattle.settings.proofs.Laws.{none, length-ok}
 use Rattle.obstacles.specs.declared.Seen.{Seen}
 use Rattle.obstacles.specs.Obstacles.{noSlipSet}
-use Rattle.obstacles.specs.Turns.{sizeNumber, begunOf, testedOf, bouncedAt, Turn, turn, turned, after}
+use Rattle.obstacles.specs.Turns.{sizeNumber, begunOf, testedOf, bouncedAt, turn, turned, after}
 use Rattle.obstacles.proofs.Ascent.{falls-from}
 use Rattle.obstacles.proofs.Runs.{upTo, whole, up-to-all}
 use Rattle.obstacles.proofs.Testing.{tested-number}

@@ -1,6 +1,6 @@
 -- What the rule of obstacles says of the populations: the same list twice gives back the first state, a named cell has its opposites, and every other entry keeps its bits.
 use mathlib.Core.Path.{_≡_, refl, sym, ap, _∙_}
-use mathlib.Core.Bool.{Bool, true, false, cond}
+use mathlib.Core.Bool.{Bool, true, false}
 use mathlib.Core.List.{List}
 use Prim.Native.Nat.{ℕ, _*_, _<_}
 use lib.Dec.{eqb}

@@ -1,5 +1,5 @@
 -- The turns of the operation: n that test the list, and n that write. The vocabulary of inner functions: no public contract needs it.
-use mathlib.Core.Bool.{Bool, cond}
+use mathlib.Core.Bool.{cond}
 use mathlib.Core.List.{List, [], _∷_}
 use Prim.Native.Nat.{ℕ, zero, suc, _+_, _%_}
 use lib.Dec.{eqb, ltb}

@@ -1,7 +1,7 @@
 -- `brothwagon::brothwagon_set_no_slip_bc` meets its contract: a walk of its MIR, by hand, since it has a `&[Obstacle]`. The words go to
 -- `settings_of`, and the list and the populations to the operation, each at its own lifetime; of the words and the list a copy is kept
 -- for the exit. All that the proof knows of the two callees is that each meets its contract.
-use mathlib.Core.Path.{_≡_, refl, sym, ap, _∙_, subst}
+use mathlib.Core.Path.{_≡_, refl, ap, _∙_, subst}
 use Prim.Native.Nat.{ℕ, _-_, _*_}
 use mathlib.Core.List.{List, [], _∷_}
 use lib.ListN.{length}
