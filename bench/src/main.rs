@@ -47,7 +47,8 @@ written and read must be as the format has it, byte for byte.
 
 Last, or alone (--obstacles), come obstacles in a closed box of 256 by 256 cells with Trt: on each level, the milliseconds of
 a step of `run` without obstacles, and how many times as long a step takes by a call of its own, alone and with a call for the
-obstacles after it: in one cell, and in a square of a hundredth of all cells. Each must end like the Rust, bit for bit.
+obstacles after it: in one cell, and in a square of a hundredth of all cells; by the shortest of five times as many turns.
+Each must end like the Rust, bit for bit.
 
 --sides, --kinds (trt, bgk, mrt) and --densities narrow the table. --svg draws it; --page puts it and the two others, in
 Markdown, between the lines `<!-- measured -->` and `<!-- end of measured -->` of FILE. --machine is the name that both give

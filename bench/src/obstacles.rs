@@ -14,10 +14,13 @@ const SQUARE: usize = 26;
 /// The steps that are timed at once.
 const STEPS: u64 = 20;
 
+/// So many times the usual turns: what is asked for here is a few parts of a hundred, less than a turn differs from the next.
+const MORE: u32 = 5;
+
 /// What is timed, as words to a worker: a run; as many calls of step; and those with obstacles in one cell, or in a square.
 const TIMED: [&str; 4] = ["run", "step", "cell", "square"];
 
-/// The table: the titles, and a row for each level, timed in so many turns.
+/// The table: the titles, and a row for each level, timed in so many usual turns.
 pub fn table(turns: u32) -> io::Result<Vec<[String; 5]>> {
     let past = |cells: usize| format!("(step + call)/run, {cells} cell{}", if cells == 1 { "" } else { "s" });
     let title = format!("obstacles, {0} by {0}", STUDY.side);
@@ -26,7 +29,7 @@ pub fn table(turns: u32) -> io::Result<Vec<[String; 5]>> {
         let part = |time: f64| format!("{:.3}", time / run);
         [level, format!("{:.3}", run / STEPS as f64), part(step), part(cell), part(square)]
     };
-    Ok([titles].into_iter().chain(by_level::times("obstacles", TIMED, turns)?.into_iter().map(row)).collect())
+    Ok([titles].into_iter().chain(by_level::times("obstacles", TIMED, MORE * turns)?.into_iter().map(row)).collect())
 }
 
 /// The cells that obstacles fill after each step of what a word says: a square in the middle.
