@@ -12,9 +12,9 @@ ghost use Rattle.obstacles.specs.Obstacles.{noSlipSet};
 ghost use Rattle.obstacles.specs.Turns.{exchanged, turn, sizeNumber, placeNumber, begunOf, testedOf, bouncedAt, turned};
 
 // What the turns so far have seen of the list: the number that refuses it, or 0; and then the lowest cell that may come next.
-pub struct Seen {
-    pub number: u32,
-    pub next: usize,
+struct Seen {
+    number: u32,
+    next: usize,
 }
 
 // ---- the tests

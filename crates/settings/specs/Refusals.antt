@@ -79,8 +79,8 @@ follows (n ∷ later) ts = follows later (past n ts)
 
 -- ---- the operations
 
--- a call: its settings or the head of its file, the lengths of its lent buffers, and the numbers that are tested
--- (i a direction, n steps, t a tolerance)
+-- a call: its settings or the head of its file, the lengths of its lent buffers, its list of obstacles, and the numbers
+-- that are tested (i a direction, n steps, t a tolerance)
 pub data Call : Type 0 where
   initialize : (s : Settings) (table f : ℕ) → Call
   density : (s : Settings) (f x y : ℕ) → Call
