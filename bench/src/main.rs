@@ -50,7 +50,7 @@ a step of `run` without obstacles, and how many times as long a step takes by a 
 obstacles after it: in one cell, and in a square of a hundredth of all cells; by the shortest of five times as many turns.
 Each must end like the Rust, bit for bit.
 
---sides, --kinds (trt, bgk, mrt) and --densities narrow the table. --svg draws it; --page puts it and the two others, in
+--sides, --kinds (trt, bgk, mrt) and --densities narrow the table. --svg draws it; --page puts it and the checkpoints, in
 Markdown, between the lines `<!-- measured -->` and `<!-- end of measured -->` of FILE. --machine is the name that both give
 the machine. Exit status: 0 done, 1 the ends differ or a worker failed, 2 the words are not understood.";
 
@@ -177,7 +177,6 @@ fn bench(plan: &Plan) -> io::Result<()> {
     if plan.whole() || plan.obstacles {
         let rows = obstacles::table(plan.turns)?;
         println!("{}all end like the Rust, bit for bit", by_level::text(&rows));
-        tables.push(by_level::markdown(&rows));
     }
     if let (Some(path), Some(report)) = (&plan.svg, &report) {
         fs::write(path, picture::picture(report))?;

@@ -35,14 +35,7 @@ fn simpler(comparison: &mut Comparison, case: &Case) -> Option<(Case, Difference
         with(&|case| case.settings.ny = less(case.settings.ny));
         with(&|case| case.steps = less(case.steps));
     }
-    let obstacles = case.list.len();
-    with(&|case| case.list.truncate(obstacles / 2));
-    with(&|case| drop(case.list.drain(..obstacles / 2)));
-    for at in 0..obstacles.min(FEW) {
-        with(&|case| drop(case.list.drain(at..=at)));
-    }
-    with(&|case| case.list.iter_mut().for_each(|obstacle| obstacle.x /= 2));
-    with(&|case| case.list.iter_mut().for_each(|obstacle| obstacle.y /= 2));
+    simpler_lists(&mut with, case.list.len());
     for at in 0..4 {
         with(&|case| *case.face_mut(at) = ffi::Face::default());
         if case.faces()[at].kind > 1 {
@@ -64,4 +57,15 @@ fn simpler(comparison: &mut Comparison, case: &Case) -> Option<(Case, Difference
     with(&|case| case.check_every = 1);
     with(&|case| case.tolerance = 0.0);
     found
+}
+
+/// Fewer obstacles, or nearer ones.
+fn simpler_lists(with: &mut dyn FnMut(&dyn Fn(&mut Case)), obstacles: usize) {
+    with(&|case| case.list.truncate(obstacles / 2));
+    with(&|case| drop(case.list.drain(..obstacles / 2)));
+    for at in 0..obstacles.min(FEW) {
+        with(&|case| drop(case.list.drain(at..=at)));
+    }
+    with(&|case| case.list.iter_mut().for_each(|obstacle| obstacle.x /= 2));
+    with(&|case| case.list.iter_mut().for_each(|obstacle| obstacle.y /= 2));
 }

@@ -64,8 +64,7 @@ fn run(file: &StudyFile, steps: u64) -> Result<String, String> {
         }
         let part = PART.min(steps - done);
         run_past(&mut *rust, &file.obstacles, part);
-        let taken = if file.obstacles.is_empty() { port.run(part) } else { port.run_past(&file.obstacles, part) };
-        taken.map_err(refused)?;
+        port.run_past(&file.obstacles, part).map_err(refused)?;
         done += part;
     }
 }

@@ -33,6 +33,14 @@ static void put_obstacles(Call *call, size_t cells) {
     set_list(call, list, count);
 }
 
+/* The first cell, behind the list. */
+static void put_behind(Call *call) {
+    const brothwagon_obstacle cell = {0, 0};
+    for (size_t k = call->list_count; k < OBSTACLES; k++) {
+        call->list[k] = cell;
+    }
+}
+
 /* The call is done, and a second one undoes it. */
 static void there_and_back(const Call *call) {
     double before[MOST];
@@ -50,6 +58,11 @@ static void every_list(const uint64_t grid[2], uint64_t first) {
                           (unsigned)grid[1], (unsigned)cells, (unsigned long long)first);
         hold_patterns(first, call.length[F]);
         put_obstacles(&call, cells);
+        there_and_back(&call);
+        /* Behind the list there may stand a cell as well. */
+        hold_patterns(first, call.length[F]);
+        put_obstacles(&call, cells);
+        put_behind(&call);
         there_and_back(&call);
     }
 }

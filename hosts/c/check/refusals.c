@@ -266,21 +266,27 @@ static void refused(const Operation *operation, const Fault *faults, const Fault
     }
 }
 
-/* Faults of a place and of the order in one list, if there are so many of each: the place is told, wherever both stand. */
-static int outside_and_falling(size_t order, size_t place) {
-    Call call = begin(3, 2, "fault %u of the place, and %u of the order", (unsigned)place, (unsigned)order);
-    const int both = orders(&call, order) && places(&call, place);
-    if (both) {
-        check(&SET_NO_SLIP_BC, &call, 6);
+/* One obstacle more, before the one that stands at a place of the list. */
+static void insert(Call *call, size_t at, brothwagon_obstacle obstacle) {
+    brothwagon_obstacle list[OBSTACLES];
+    for (size_t k = 0; k <= call->list_count; k++) {
+        list[k] = k < at ? call->list[k] : k == at ? obstacle : call->list[k - 1];
     }
-    return both;
+    set_list(call, list, call->list_count + 1);
 }
 
-static void refused_lists(void) {
-    for (size_t order = 0; outside_and_falling(order, 0); order++) {
-        for (size_t place = 1; outside_and_falling(order, place); place++) {
-        }
+/* A fault of the order, if there are so many, with a place outside put in anywhere: the place is told, wherever both stand. */
+static int outside_and_falling(size_t order) {
+    static const brothwagon_obstacle outside[] = {{3, 0}, {0, 2}, {SIZE_MAX, 0}, {0, SIZE_MAX}};
+    Call falling = begin(3, 2, "fault %u of the order", (unsigned)order);
+    const int some = orders(&falling, order);
+    for (size_t k = 0; some && k < COUNT(outside) * (falling.list_count + 1); k++) {
+        Call call = begin(3, 2, "fault %u of the order, and place %u outside", (unsigned)order, (unsigned)k);
+        orders(&call, order);
+        insert(&call, k / COUNT(outside), outside[k % COUNT(outside)]);
+        check(&SET_NO_SLIP_BC, &call, 6);
     }
+    return some;
 }
 
 static void refused_tolerance(void) {
@@ -305,7 +311,10 @@ void check_refusals(void) {
             refused(ALL[at], FAULTS, FAULTS + COUNT(FAULTS));
         }
     }
-    refused_lists();
+    size_t order = 0;
+    while (outside_and_falling(order)) {
+        order++;
+    }
     refused_tolerance();
     allowed_sides();
 }

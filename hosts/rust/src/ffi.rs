@@ -49,6 +49,9 @@ pub struct Obstacle {
     pub y: usize,
 }
 
+// The library reads an obstacle as two words.
+const _: () = assert!(size_of::<Obstacle>() == 2 * 8);
+
 /// What a small answer array holds before the call, so that an answer that was not written shows.
 const UNWRITTEN: u64 = u64::MAX;
 

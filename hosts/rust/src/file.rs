@@ -72,7 +72,6 @@ struct Draft {
     y_min: Option<Face>,
     y_max: Option<Face>,
     blocks: Vec<Block>,
-    obstacles: Vec<Obstacle>,
     start: Option<Start>,
     steps: Option<u64>,
     steady: Option<(f64, u64)>,
@@ -83,11 +82,11 @@ impl StudyFile {
     pub fn read(text: &str) -> Result<StudyFile, Wrong> {
         let mut draft = Draft::default();
         // A line is wrong by itself or, as an obstacle, by the sides, which may stand below it.
-        let taken = [draft.take_lines(text), draft.place_obstacles()];
-        if let Some((line, expected)) = taken.into_iter().filter_map(Result::err).min() {
+        let (taken, obstacles) = (draft.take_lines(text), draft.obstacles());
+        if let Some((line, expected)) = taken.err().into_iter().chain(obstacles.clone().err()).min() {
             return Err(Wrong { line, expected, found: found(text, line) });
         }
-        draft.finish().map_err(|missing| Wrong {
+        draft.finish(obstacles.unwrap_or_default()).map_err(|missing| Wrong {
             line: text.lines().count() + 1,
             expected: format!("a line `{missing}`"),
             found: "the end".to_string(),
@@ -116,15 +115,14 @@ fn found(text: &str, line: usize) -> String {
 }
 
 impl Draft {
-    /// Takes every line of a text; or says of the first that is not as expected which one it is, and what was.
+    /// Takes the lines of a text, up to one that is not as expected: which one that is, and what was.
     fn take_lines(&mut self, text: &str) -> Result<(), (usize, String)> {
-        let mut taken = Ok(());
         for (line, said) in (1..).zip(text.lines()) {
             if let [name, values @ ..] = &words(said)[..] {
-                taken = taken.and(self.take(line, name, values).map_err(|expected| (line, expected)));
+                self.take(line, name, values).map_err(|expected| (line, expected))?;
             }
         }
-        taken
+        Ok(())
     }
 
     fn take(&mut self, line: usize, name: &str, values: &[&str]) -> Result<(), String> {
@@ -150,16 +148,13 @@ impl Draft {
         }
     }
 
-    /// Finds the cells of the obstacles, if there are sides to hold them to; or says what is wrong as with lines.
-    fn place_obstacles(&mut self) -> Result<(), (usize, String)> {
-        if let Some((nx, ny)) = self.sides {
-            self.obstacles = obstacles::cells(&self.blocks, nx, ny)?;
-        }
-        Ok(())
+    /// The cells of the obstacles, none if there are no sides to hold them to; or what is wrong, as with lines.
+    fn obstacles(&self) -> Result<Vec<Obstacle>, (usize, String)> {
+        self.sides.map_or(Ok(Vec::new()), |(nx, ny)| obstacles::cells(&self.blocks, nx, ny))
     }
 
     /// The study, with what it left out as in the solver's source: no force, Trt with 3/16, periodic, at rest.
-    fn finish(self) -> Result<StudyFile, &'static str> {
+    fn finish(self, obstacles: Vec<Obstacle>) -> Result<StudyFile, &'static str> {
         let (nx, ny) = self.sides.ok_or("sides NX NY")?;
         let nu = self.viscosity.ok_or("viscosity NUMBER")?;
         let (fx, fy) = self.force.unwrap_or((0.0, 0.0));
@@ -182,7 +177,7 @@ impl Draft {
                 y_max: self.y_max.unwrap_or_default(),
             },
             magic,
-            obstacles: self.obstacles,
+            obstacles,
             start: self.start.unwrap_or(Start::Uniform(1.0, 0.0, 0.0)),
             steps: self.steps.ok_or("steps NUMBER")?,
             tolerance,

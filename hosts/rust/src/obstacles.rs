@@ -41,7 +41,7 @@ impl Block {
         }
         for Obstacle { x, y } in self.cells() {
             if let Some(above) = lines[x + y * nx].replace(self.line) {
-                return Err(format!("no cell of line {above}'s obstacle again, as x {x}, y {y} is"));
+                return Err(format!("cells that no line above names (line {above} has x {x}, y {y})"));
             }
         }
         Ok(())
@@ -129,11 +129,11 @@ mod tests {
     #[test]
     fn a_cell_that_is_named_again_is_wrong_and_has_its_first_line_named() {
         let again = |obstacles: &str| wrong(&study(obstacles));
-        let one = "line 6: expected no cell of line 4's obstacle again, as x 1, y 1 is, found `obstacle 1 1`";
+        let one = "line 6: expected cells that no line above names (line 4 has x 1, y 1), found `obstacle 1 1`";
         assert_eq!(again("obstacle 1 1\nobstacle 3 0\nobstacle 1 1"), one);
-        let blocks = "line 5: expected no cell of line 4's obstacle again, as x 2, y 1 is, found `obstacle 2 1 to 3 2`";
+        let blocks = "line 5: expected cells that no line above names (line 4 has x 2, y 1), found `obstacle 2 1 to 3 2`";
         assert_eq!(again("obstacle 0 0 to 2 2\nobstacle 2 1 to 3 2 # beside"), blocks);
-        let second = "line 6: expected no cell of line 5's obstacle again, as x 3, y 0 is, found `obstacle 3 2 to 3 0`";
+        let second = "line 6: expected cells that no line above names (line 5 has x 3, y 0), found `obstacle 3 2 to 3 0`";
         assert_eq!(again("obstacle 0 0 to 2 2\nobstacle 3 0\nobstacle 3 2 to 3 0"), second);
     }
 
@@ -141,9 +141,12 @@ mod tests {
     fn the_first_wrong_line_is_told() {
         // Outside, again, not understood, and a line that is missing.
         let line = |text: &str| StudyFile::read(text).unwrap_err().line;
-        assert_eq!(line("obstacle 1 1\nobstacle 4 0\nobstacle 1 1\nwalls\nsides 4 3"), 2);
-        assert_eq!(line("obstacle 1 1\nobstacle 1 1\nobstacle 4 0\nwalls\nsides 4 3"), 2);
-        assert_eq!(line("obstacle 1 1\nwalls\nobstacle 4 0\nobstacle 1 1\nsides 4 3"), 2);
+        assert_eq!(line("obstacle 1 1\nobstacle 4 0\nsides 4 3\nobstacle 1 1\nwalls"), 2);
+        assert_eq!(line("obstacle 1 1\nobstacle 1 1\nobstacle 4 0\nsides 4 3\nwalls"), 2);
+        assert_eq!(line("obstacle 1 1\nsides 4 3\nwalls\nobstacle 4 0\nobstacle 1 1"), 3);
+        // No obstacle is held to sides that stand below a wrong line, least of all to a second try at them.
+        assert_eq!(line("obstacle 4 0\nwalls\nsides 4 3"), 2);
+        assert_eq!(line("obstacle 4 0\nsides 4\nsides 4 3"), 2);
         assert_eq!(line("obstacle 1 1\nsides 4 3\nobstacle 1 1"), 3);
         assert_eq!(line("obstacle 4 0\nobstacle 4 0\nviscosity 0.1\nsteps 5"), 5);
     }

@@ -256,12 +256,20 @@ impl Study {
         Refusal::of(ffi::set_no_slip_bc(&self.words(), list, &mut self.f))
     }
 
-    /// Any number of steps, with [`Study::set_no_slip_bc`] after each. Where settings or list are refused, none is taken.
-    pub fn run_past(&mut self, list: &[Obstacle], steps: u64) -> Result<(), Refusal> {
+    /// Asks whether [`Study::run_past`] would be refused with this list, and changes nothing: two calls, the second of which undoes
+    /// the first.
+    pub fn ask_past(&mut self, list: &[Obstacle]) -> Result<(), Refusal> {
         self.run(0)?;
-        // A list is asked about by two calls: the second undoes the first.
         self.set_no_slip_bc(list)?;
-        self.set_no_slip_bc(list)?;
+        self.set_no_slip_bc(list)
+    }
+
+    /// So many steps, with [`Study::set_no_slip_bc`] after each; without obstacles, as [`Study::run`] takes them. A list that is
+    /// refused is told after the first step: [`Study::ask_past`] tells it before.
+    pub fn run_past(&mut self, list: &[Obstacle], steps: u64) -> Result<(), Refusal> {
+        if list.is_empty() {
+            return self.run(steps);
+        }
         for _ in 0..steps {
             self.step()?;
             self.set_no_slip_bc(list)?;

@@ -68,9 +68,10 @@ fn a_list_that_is_refused_writes_nothing() {
         let mut study = numbered();
         let before = bits(&study);
         assert_eq!(study.set_no_slip_bc(&list(cells)), Err(refusal), "{cells:?}");
-        assert_eq!(study.run_past(&list(cells), 3), Err(refusal), "{cells:?}");
+        assert_eq!(study.ask_past(&list(cells)), Err(refusal), "{cells:?}");
         assert_eq!(bits(&study), before, "{cells:?}");
         assert!(study.post().iter().all(|&entry| entry == 0.0), "{cells:?}: a step was taken");
+        assert_eq!(study.run_past(&list(cells), 3), Err(refusal), "{cells:?}");
     }
 }
 
@@ -128,12 +129,15 @@ fn a_run_past_obstacles_is_its_steps_with_the_call_after_each() {
 }
 
 #[test]
-fn a_run_past_obstacles_is_refused_with_the_settings_first() {
+fn a_question_about_obstacles_is_refused_with_the_settings_first_and_changes_nothing() {
     let mut study = Study::new(Settings { x_min: Face::Velocity(1.0, 0.0), ..Settings::new(4, 3, 0.1) }).unwrap();
-    assert_eq!(study.run_past(&list(&[(4, 0)]), 0), Err(Refusal::Face));
+    assert_eq!(study.ask_past(&list(&[(4, 0)])), Err(Refusal::Face));
     study.change(Settings::new(4, 3, 0.1)).unwrap();
-    assert_eq!(study.run_past(&list(&[(4, 0)]), 0), Err(Refusal::Place));
-    assert_eq!(study.run_past(&list(&[(3, 0)]), 0), Ok(()));
+    assert_eq!(study.ask_past(&list(&[(4, 0)])), Err(Refusal::Place));
+    let mut study = numbered();
+    let before = bits(&study);
+    assert_eq!(study.ask_past(&list(&[(3, 0)])), Ok(()));
+    assert_eq!(bits(&study), before);
 }
 
 fn print(study: &Study) -> String {
@@ -206,7 +210,7 @@ fn the_lossless_question_is_of_streaming_and_faces_alone() {
 fn a_wrong_obstacle_is_named_with_file_and_line_and_wrong_sides_are_the_librarys_to_refuse() {
     let cases = [
         ("obstacle 12 0", "expected an obstacle on the grid, x from 0 to 11 and y from 0 to 6, found `obstacle 12 0`"),
-        ("obstacle 8 5 to 8 3", "expected no cell of line 9's obstacle again, as x 8, y 4 is, found `obstacle 8 5 to 8 3`"),
+        ("obstacle 8 5 to 8 3", "expected cells that no line above names (line 9 has x 8, y 4), found `obstacle 8 5 to 8 3`"),
         ("obstacle 1", "expected obstacle X Y or obstacle X Y to X Y, in whole numbers, found `obstacle 1`"),
     ];
     for (line, why) in cases {

@@ -1,6 +1,6 @@
 -- `brothwagon::brothwagon_set_no_slip_bc` meets its contract: a walk of its MIR, by hand, since it has a `&[Obstacle]`. The words go to
--- `settings_of`, and the list and the populations to the operation, each at its own lifetime; of the words and the list a copy is kept
--- for the exit. All that the proof knows of the two callees is that each meets its contract.
+-- `settings_of`, and the list and the populations to the operation, each for as long as it was lent; what the
+-- words and the list own goes back at the end. Of the two callees it uses their contracts alone.
 use mathlib.Core.Path.{_≡_, refl, ap, _∙_, subst}
 use Prim.Native.Nat.{ℕ, _-_, _*_}
 use mathlib.Core.List.{List, [], _∷_}
@@ -82,7 +82,7 @@ stayed = (
   (stay-none-slice (1 ∷ []) tt (plain (λ _. ObsR)) yes, (gave-slice (2 ∷ []) tt (plain (λ _. u64)), tt)),
 )
 
--- ---- the contracts that the proof cites
+-- ---- what the two callees promise
 
 module _ {M : Type 1} (𝓤 : URA M) (H : Heap 𝓤) (A : Atoms 𝓤) (mem : Memory → SProp 𝓤) (run : Routine → Fun 𝓤) where
   abbrev Told : Contract 𝓤
@@ -124,7 +124,7 @@ module _ {M : Type 1} (𝓤 : URA M) (H : Heap 𝓤) (A : Atoms 𝓤) (W : Given
   abbrev good : Settings → Type 0
   good r = Is SetR r (Set′.lowered r ∷ [])
 
-  -- the machine values
+  -- the arguments as values of the machine
   abbrev v₀ : Val
   v₀ = vptr b₀ o₀
 
@@ -140,7 +140,7 @@ module _ {M : Type 1} (𝓤 : URA M) (H : Heap 𝓤) (A : Atoms 𝓤) (W : Given
   abbrev Post : Val → SProp 𝓤
   Post = walkOf 𝓤 H A own.ended stayed (own.clauses 𝓤 H A at-mem run) .post (((κ₀, (κ₁, (κ₂, tt))), (q₀, (q₁, (q₂, tt))), bounds, a, at), tt)
 
-  -- what the three borrows own
+  -- what a caller hands over with each
   abbrev OwnW : Fml
   OwnW = ShrRef (named 0) κ₀ WordsR .own w (v₀ ∷ [])
 
@@ -153,7 +153,7 @@ module _ {M : Type 1} (𝓤 : URA M) (H : Heap 𝓤) (A : Atoms 𝓤) (W : Given
   abbrev Result : ℕ → List ℕ → Type 0
   Result r zs = outcome r zs ≡ noSlipSet s os ys
 
-  -- what the callees' triples bind outside, and what they ask
+  -- the two calls, and what each must be given
   abbrev to-told : Told 𝓤 H A at-mem run .Ghost
   to-told = (((κ₀, tt), (q₀, tt), tt, (w, tt), (v₀ ∷ [], tt)), tt)
 
@@ -239,7 +239,7 @@ module _ {M : Type 1} (𝓤 : URA M) (H : Heap 𝓤) (A : Atoms 𝓤) (W : Given
       (fact 𝓤 (Result n (zs .1 .1 .0))))) (id⊢ 𝓤 _) $ pick ! (λ zs.
       split ! $ move ! (1 ∷ []) $ heard ! (Result n (zs .1 .1 .0))
       (λ done-so. fsplit ! $ drop ! $ fsplit ! $ drop ! $ fsplit ! $ fsplit ! $ move ! (1 ∷ []) $ feqL ! (λ l.
-      -- [the last list; …; the tokens and the result; the list; the words' token; the words; the locals]
+      -- [what the populations hold at last; …; their token with the list's, and the number; the list; the words' token; the words; the locals]
       move ! (2 ∷ []) $ split ! $ move ! (1 ∷ []) $ peeks ! u32 (Is u32) (shows 𝓤 H A u32) n (x ∷ []) (λ number.
       land ! (from ! (stop !)) (init ! (local 19 0) refl (uint-lawful 𝓤 H A W w32 .typed n _ number .0)) $
       returns ! (look ! (local 19 0) refl) $ forget ! (local 19 6) refl $ forget ! (local 19 5) refl $ forget ! (local 19 4) refl $

@@ -2,7 +2,7 @@
 -- Both borrows are opened before the loop, the list to be read and the populations to be lent, and shut after it. In each turn one
 -- obstacle is taken out of the list, read and put back, and what lies in the populations is lent to `visit` for the call alone.
 -- So after j turns the locals and the populations are `after`'s, and `obstructs` says what that is after all of them.
--- All that the proof knows of `begun` and `visit` is that each meets its contract.
+-- Of `begun` and `visit` it uses their contracts alone.
 use mathlib.Core.Path.{_≡_, refl, sym, ap, _∙_, subst}
 use Prim.Native.Nat.{ℕ, suc, _+_, _-_, _*_, _%_, _<_, _≤_, _^_}
 use native.Mathlib.Nat.{mod-lt}
@@ -114,7 +114,7 @@ local base i = base - 2 * i
 abbrev stayed : Stays (own.ended .signature .params) (own.ended .kept)
 stayed = (stay-none (λ _. SetR) yes, (stay-none-slice (0 ∷ []) tt (plain (λ _. ObsR)) yes, (stay-slice (1 ∷ []) tt (plain (λ _. u64)), tt)))
 
--- ---- the contracts that the proof cites
+-- ---- what the two callees promise
 
 module _ {M : Type 1} (𝓤 : URA M) (H : Heap 𝓤) (A : Atoms 𝓤) (mem : Memory → SProp 𝓤) (run : Routine → Fun 𝓤) where
   abbrev Begun : Contract 𝓤
@@ -155,7 +155,7 @@ module _ {M : Type 1} (𝓤 : URA M) (H : Heap 𝓤) (A : Atoms 𝓤) (W : Given
   abbrev list : RefT (List Obstacle)
   list = record { ptr = (b₀, o₀); name = γ₀; now = os }
 
-  -- the populations' borrow, under the name δ at the list l
+  -- a borrow of the populations, which hold l; δ is its ghost name
   abbrev f : GName → List ℕ → RefT (List ℕ)
   f δ l = record { ptr = (b₁, o₁); name = δ; now = l }
 
@@ -165,7 +165,7 @@ module _ {M : Type 1} (𝓤 : URA M) (H : Heap 𝓤) (A : Atoms 𝓤) (W : Given
   abbrev a : Arg
   a = (s, (list, (f γ₁ ys, tt)))
 
-  -- the machine values
+  -- the arguments as values of the machine
   abbrev v₀ : Val
   v₀ = sliceVal (b₀, o₀) n
 
@@ -178,7 +178,7 @@ module _ {M : Type 1} (𝓤 : URA M) (H : Heap 𝓤) (A : Atoms 𝓤) (W : Given
   abbrev Post : Val → SProp 𝓤
   Post = walkOf 𝓤 H A own.ended stayed (own.clauses 𝓤 H A at-mem run) .post (((κ₀, (κ₁, tt)), (q₀, (q₁, tt)), bounds, a, at), tt)
 
-  -- what the two borrows own
+  -- what a caller hands over with the list, and with the populations where they hold l
   abbrev OwnL : Fml
   OwnL = ShrSlice (named 0) κ₀ ObsR .own list (v₀ ∷ [])
 
@@ -216,7 +216,7 @@ module _ {M : Type 1} (𝓤 : URA M) (H : Heap 𝓤) (A : Atoms 𝓤) (W : Given
       owned ! SetR (Is SetR) (Struct.makes Set.the-type Set′.the-plain 𝓤 H A) s _ s-good $ fjoin ! $
       owned ! u32 (Is u32) (uint-makes 𝓤 H A W w32) r _ (refl, r-fits) $ move ! (1 ∷ 0 ∷ []) $ done !
 
-  -- what `begun`'s triple binds outside, and what it asks
+  -- the call of `begun`, and what it must be given
   abbrev to-begun : Begun 𝓤 H A at-mem run .Ghost
   to-begun = ((tt, tt, tt, (nx, (ny, (len, tt))), (vint w64 nx ∷ [], (vint w64 ny ∷ [], (vint w64 len ∷ [], tt)))), tt)
 
@@ -226,7 +226,7 @@ module _ {M : Type 1} (𝓤 : URA M) (H : Heap 𝓤) (A : Atoms 𝓤) (W : Given
       owned ! usize (Is usize) (uint-makes 𝓤 H A W w64) ny _ (refl, ny-fits) $ fjoin ! $
       owned ! usize (Is usize) (uint-makes 𝓤 H A W w64) nx _ (refl, nx-fits) $ fjoin ! $ nothing ! $ join ! $ frame ! $ done !
 
-  -- what `visit`'s triple binds outside, and what it asks: the populations are lent for the lifetime ν, under the name δ
+  -- the call of `visit` in turn j, and what it must be given: the populations among it, lent for the lifetime ν
   module _ (j : ℕ) (j-fits : j < 2 ^ 64) (o : Obstacle) (o-good : Is ObsR o (Obs′.lowered o ∷ [])) (r : Seen) (r-good : good r) (l : List ℕ) (ν : ℕ)
       (δ : GName) where
     abbrev to : ℕ × (ℕ × (ℕ × (ℕ × (Obstacle × (Seen × (RefT (List ℕ) × Unit {0}))))))
@@ -257,7 +257,7 @@ module _ {M : Type 1} (𝓤 : URA M) (H : Heap 𝓤) (A : Atoms 𝓤) (W : Given
         owned ! usize (Is usize) (uint-makes 𝓤 H A W w64) nx _ (refl, nx-fits) $ fjoin ! $
         nothing ! $ move ! (2 ∷ 0 ∷ []) $ join ! $ join ! $ frame ! $ done !
 
-  -- ---- the turns: the variant is how many are done, with what is known then
+  -- ---- the turns: how many are done, and what is known then
 
   pub record Done : Type 0 where
     pub j : ℕ
@@ -265,11 +265,15 @@ module _ {M : Type 1} (𝓤 : URA M) (H : Heap 𝓤) (A : Atoms 𝓤) (W : Given
     pub seen-good : good (now-at j .so-far)
     pub same-size : length (now-at j .buffer) ≡ len
 
-  abbrev Nearer : Done → Done → Type 0
-  Nearer u v = n + n - u .j < n + n - v .j
+  -- they come to an end, since each leaves fewer
+  abbrev left : Done → ℕ
+  left u = n + n - u .j
 
-  Nearer-wf : WellFounded Nearer
-  Nearer-wf = InvImage·wf (λ (u : Done). n + n - u .j) (Nat·lt-wfRel .wf)
+  abbrev Fewer : Done → Done → Type 0
+  Fewer u v = left u < left v
+
+  fewer-ends : WellFounded Fewer
+  fewer-ends = InvImage·wf left (Nat·lt-wfRel .wf)
 
   -- twice the count is a number, since each obstacle takes sixteen bytes
   both-fit : n + n < 2 ^ 64
@@ -308,13 +312,13 @@ module _ {M : Type 1} (𝓤 : URA M) (H : Heap 𝓤) (A : Atoms 𝓤) (W : Given
         ∷ ‵ (fat fullShare ty₂ l₂ 0 v₀) ∷ ‵ (fdies ty₂ l₂) ∷ ‵ (fat fullShare Set′.mir l₁ 0 (Set′.lowered s)) ∷ ‵ (fdies Set′.mir l₁)
         ∷ ‵ (froom (tyInt w32) l₀ 0) ∷ ‵ (fdies (tyInt w32) l₀) ∷ []
 
-    -- a turn's postcondition: it ends nearer to the last, or the loop is left and the rest of the body runs
-    abbrev Turned : Done → Out → SProp 𝓤
-    Turned u = afterTurn 𝓤 H (Below 𝓤 H A Nearer At u)
+    -- where a turn may end: in a state with fewer turns left, or behind the loop, in what the body still has to do
+    abbrev Ending : Done → Out → SProp 𝓤
+    Ending u = afterTurn 𝓤 H (Below 𝓤 H A Fewer At u)
         (afterBlock 𝓤 H (afterSeq 𝓤 H (Wp 𝓤 H C Λ En code.Mir.t-8 (atReturn 𝓤 H En Post)) (atReturn 𝓤 H En Post)))
 
-    -- the turn that leaves the loop, and the rest of the body
-    ends : (u : Done) → ltb (u .j) (n + n) ≡ false → Sq W (At u) (runs C Λ En code.Mir.turn-1 (anyQ (Turned u)))
+    -- no turn is left: the borrows are shut, and the number is returned
+    ends : (u : Done) → ltb (u .j) (n + n) ≡ false → Sq W (At u) (runs C Λ En code.Mir.turn-1 (anyQ (Ending u)))
     unfolding afterTurn
     ends u over =
         assigns ! (bin ! (load ! (from ! (stop !)) (look ! (local 39 6) refl)) (load ! (from ! (stop !)) (look ! (local 39 6) refl))
@@ -325,7 +329,7 @@ module _ {M : Type 1} (𝓤 : URA M) (H : Heap 𝓤) (A : Atoms 𝓤) (W : Given
         leaves-loop ! (load ! (from ! (stop !)) (look ! (local 39 11) refl)) $ exec ! C Λ En code.Mir.t-8 (atRet En Post) $
         assigns ! (of-opd ! (load ! (from ! (fld ! refl (stop !))) (look-in ! (local 39 7) (sub ! 0 refl (whole !))))) (from ! (stop !))
         (init ! (local 39 0) refl (tt, record { fits = number-fits })) $
-        -- both borrows are shut
+        -- the list is put away, and the populations are as the turns left them
         move ! (0 ∷ 5 ∷ []) $ shuts-slice ! tt ObsR q′ os b₀ o₀ $ move ! (1 ∷ []) $
         use1 W (‵ (row u64 fullShare zs b₁ o₁)) (whole-out 𝓤 H A W u64 zs b₁ o₁) $
         move ! (0 ∷ 2 ∷ 3 ∷ 4 ∷ []) $ closes-slice ! tt u64 ys zs (u .same-size) b₁ o₁ $
@@ -367,8 +371,8 @@ module _ {M : Type 1} (𝓤 : URA M) (H : Heap 𝓤) (A : Atoms 𝓤) (W : Given
         → w ≡ See′.lowered (now-at (suc j) .so-far)
     machine j r w gs is e = ap only (Struct.tells See.the-type See′.the-laws r _ is) ∙ ap (λ (t : Turn). See′.lowered (t .so-far)) (stepped j r gs e)
 
-    -- a turn that visits one obstacle
-    more : (u : Done) → ltb (u .j) (n + n) ≡ true → Sq W (At u) (runs C Λ En code.Mir.turn-1 (anyQ (Turned u)))
+    -- one obstacle is visited
+    more : (u : Done) → ltb (u .j) (n + n) ≡ true → Sq W (At u) (runs C Λ En code.Mir.turn-1 (anyQ (Ending u)))
     unfolding afterTurn
     more u less =
         assigns ! (bin ! (load ! (from ! (stop !)) (look ! (local 39 6) refl)) (load ! (from ! (stop !)) (look ! (local 39 6) refl))
@@ -377,7 +381,7 @@ module _ {M : Type 1} (𝓤 : URA M) (H : Heap 𝓤) (A : Atoms 𝓤) (W : Given
         (from ! (stop !)) (init ! (local 39 11) refl (tt, tt)) $
         rewrite ! (local 39 11) (λ (t : Bool). ‵ (fat fullShare tyBool l₁₁ 0 (vbool t))) less refl $
         stays ! (load ! (from ! (stop !)) (look ! (local 39 11) refl)) $
-        -- the place of `list[j % n]`
+        -- where obstacle j % n stands
         assigns ! (bin ! (load ! (from ! (stop !)) (look ! (local 39 8) refl)) (load ! (from ! (stop !)) (look ! (local 39 6) refl)) some-left)
         (from ! (stop !)) (store ! (local 39 10) refl (tt, record { fits = k-fits })) $
         assigns ! (bin ! (load ! (from ! (stop !)) (look ! (local 39 10) refl)) (lit ! tt) (record { fits = bytes-fit })) (from ! (stop !))
@@ -385,7 +389,7 @@ module _ {M : Type 1} (𝓤 : URA M) (H : Heap 𝓤) (A : Atoms 𝓤) (W : Given
         assigns ! (bin ! (load ! (from ! (fld ! refl (stop !))) (look-in ! (local 39 2) (sub ! 0 refl (whole !))))
         (load ! (from ! (stop !)) (look ! (local 39 12) refl)) tt) (from ! (stop !)) (init ! (local 39 13) refl (tt, tt)) $
         rewrite ! (local 39 13) (λ (p : ℕ). ‵ (fat fullShare tyPtr l₁₃ 0 (vptr b₀ p))) (sym (place-is 16 o₀ k)) refl $
-        -- the obstacle is taken out of the list, read, and put back
+        -- its two words, as a struct
         elem-out ! ObsR (Is ObsR) (shows 𝓤 H A ObsR) (Struct.vals Obs.the-type Obs′.the-laws) (Struct.tells Obs.the-type Obs′.the-laws) q′ os k
         nowhere b₀ o₀ within (λ g.
         assigns ! (of-opd ! (load ! (from ! (hop ! (look ! (local 41 13) refl) (stop !))) (look-raw ! 0 refl))) (from ! (stop !))
@@ -416,7 +420,7 @@ module _ {M : Type 1} (𝓤 : URA M) (H : Heap 𝓤) (A : Atoms 𝓤) (W : Given
         use1 W (later (some (λ (r : Seen). ((‵ (flft (ν ∷ []) fullShare) ⊛ ‵ ftrue) ⊛ ‵ (SeeR .own r (w ∷ []))) ⊛ raw
         (ensured 𝓤 H A visit.ended (visit.clauses 𝓤 H A at-mem run) (ν ∷ [], tt) (to (u .j) j-fits o g seen (u .seen-good) fs ν δ) tt r))))
         (id⊢ 𝓤 _) $ await ! tt $ pick ! (λ r.
-        -- what `visit` ensures, at some last list
+        -- by its promise it made the turn, and left some list in the populations
         split ! $ move ! (1 ∷ []) $ use1 W
         (some (λ (zs : Unit {0} × (Unit {0} × (Unit {0} × (Unit {0} × (Unit {0} × (Unit {0} × (List ℕ × Unit {0}))))))).
         ‵ (lasts visit.ended (ν ∷ [], tt) (to (u .j) j-fits o g seen (u .seen-good) fs ν δ) zs) ⊛ raw
@@ -426,11 +430,12 @@ module _ {M : Type 1} (𝓤 : URA M) (H : Heap 𝓤) (A : Atoms 𝓤) (W : Given
         move ! (1 ∷ []) $ feqL ! (λ same.
         move ! (2 ∷ []) $ split ! $ move ! (1 ∷ []) $ peeks ! SeeR (Is SeeR) (shows 𝓤 H A SeeR) r (w ∷ []) (λ is.
         land ! (from ! (stop !)) (store ! (local 43 7) refl (Struct.lawful See.the-type See′.the-laws 𝓤 H A W .typed r _ is .0)) $
-        -- the lifetime is ended, and that list lies in the populations
+        -- with the call the loan is over: what it left lies where the populations are
         move ! (1 ∷ []) $ split ! $ lft-end ! tt $ move ! (0 ∷ 5 ∷ 3 ∷ []) $
         use3 W (later (‵ (Arr (mem u64) (length fs) .lies (last zs) b₁ o₁))) (slice-back 𝓤 H A W u64 (ν ∷ []) δ (last zs) (length fs) b₁ o₁) $
         await ! tt $ fsplit ! $ drop ! $
-        -- [the populations; …; what `visit` returned; …; the list's share; the open borrow; what shuts the list; the list; the locals, of which local 0 stands at 42]
+        -- [the populations; …; what `visit` returned; …; the list's share; the open borrow; what shuts the list; the list; the locals,
+        -- of which local 0 stands at 42]
         assigns-last ! (bin ! (load ! (from ! (stop !)) (look ! (local 42 8) refl)) (lit ! tt) (record { fits = next-fits })) (from ! (stop !))
         (store ! (local 42 8) refl (tt, record { fits = next-fits })) $
         forget ! (local 42 16) refl $ forget ! (local 42 15) refl $ forget ! (local 42 14) refl $ forget ! (local 42 13) refl $
@@ -440,7 +445,7 @@ module _ {M : Type 1} (𝓤 : URA M) (H : Heap 𝓤) (A : Atoms 𝓤) (W : Given
         rewrite ! 0 (λ (l : List ℕ). ‵ (Lies l)) (ap (λ (t : Turn). t .buffer) (stepped (u .j) r (last zs) e)) refl $
         keep ! (4 ∷ 0 ∷ 5 ∷ 6 ∷ 7 ∷ 8 ∷ 9 ∷ 10 ∷ 11 ∷ 12 ∷ 13 ∷ 14 ∷ 15 ∷ 16 ∷ 17 ∷ 18 ∷ 19 ∷ 20 ∷ 21 ∷ 22 ∷ 23 ∷ 24 ∷ 25 ∷ 26 ∷ 27 ∷ 28 ∷ 29 ∷ 30
         ∷ 31 ∷ 32 ∷ 33 ∷ 34 ∷ 35 ∷ 36 ∷ 37 ∷ 38 ∷ 39 ∷ 40 ∷ 41 ∷ 42 ∷ 43 ∷ []) $
-        again ! Nearer At u (next r w (last zs) is e same) closer)))))))))
+        again ! Fewer At u (next r w (last zs) is e same) closer)))))))))
       where
         seen : Seen
         seen = now-at (u .j) .so-far
@@ -488,16 +493,16 @@ module _ {M : Type 1} (𝓤 : URA M) (H : Heap 𝓤) (A : Atoms 𝓤) (W : Given
         closer : n + n - suc (u .j) < n + n - u .j
         closer = omega (arith, j-less)
 
-    by-test : (u : Done) (t : Bool) → ltb (u .j) (n + n) ≡ t → Sq W (At u) (runs C Λ En code.Mir.turn-1 (anyQ (Turned u)))
+    by-test : (u : Done) (t : Bool) → ltb (u .j) (n + n) ≡ t → Sq W (At u) (runs C Λ En code.Mir.turn-1 (anyQ (Ending u)))
     by-test u true e = more u e
     by-test u false e = ends u e
 
-    turns : (u : Done) → Sq W (At u) (runs C Λ En code.Mir.turn-1 (anyQ (Turned u)))
+    turns : (u : Done) → Sq W (At u) (runs C Λ En code.Mir.turn-1 (anyQ (Ending u)))
     turns u = by-test u (ltb (u .j) (n + n)) refl
 
-    -- the loop, and the rest of the body
+    -- from the loop on
     looped : (u : Done) → ent 𝓤 (⋆ 𝓤 H A (At u)) (Wp 𝓤 H C Λ En code.Mir.t-7 (atReturn 𝓤 H En Post))
-    looped u = qed W (At u) ∵ exec ! C Λ En code.Mir.t-7 (atRet En Post) $ first ! $ blocks ! $ loops ! 𝓣 Nearer Nearer-wf At turns u
+    looped u = qed W (At u) ∵ exec ! C Λ En code.Mir.t-7 (atRet En Post) $ first ! $ blocks ! $ loops ! 𝓣 Fewer fewer-ends At turns u
 
   -- ---- before the first turn
 
@@ -524,7 +529,7 @@ module _ {M : Type 1} (𝓤 : URA M) (H : Heap 𝓤) (A : Atoms 𝓤) (W : Given
   module _ (𝓣 : Tables 𝓤 H) (known-begun : Triple 𝓤 (𝓣 .C #begun) (Begun 𝓤 H A at-mem run))
       (known-visit : Triple 𝓤 (𝓣 .C #visit) (Visit 𝓤 H A at-mem run))
       (l₀ l₁ l₂ l₃ l₄ l₅ l₆ l₇ l₈ l₉ l₁₀ l₁₁ l₁₂ l₁₃ l₁₄ l₁₅ l₁₆ : ℕ) where
-    -- on entry, once the parameters are in their locals
+    -- what is known before the first statement
     abbrev Entered : List (Item 𝓤)
     Entered =
         ‵ (froom (sliceTy ref) l₁₆ 0) ∷ ‵ (fdies (sliceTy ref) l₁₆) ∷ ‵ (froom ref l₁₅ 0) ∷ ‵ (fdies ref l₁₅) ∷ ‵ (froom Obs′.mir l₁₄ 0)
@@ -564,7 +569,7 @@ module _ {M : Type 1} (𝓤 : URA M) (H : Heap 𝓤) (A : Atoms 𝓤) (W : Given
         rewrite ! (local 32 7) (λ (v : Val). ‵ (fat fullShare See′.mir l₇ 0 v))
         (ap only (Struct.tells See.the-type See′.the-laws r _ is) ∙ ap See′.lowered (begins r e)) refl $
         assigns ! (of-opd ! (lit ! tt)) (from ! (stop !)) (init ! (local 32 8) refl (tt, record { fits = lit< tt })) $ forget ! (local 32 9) refl $
-        -- the list is Copy: one copy of what it owns is kept for the exit, and the other is looked into
+        -- what the list owns is doubled: one goes back to the caller at the end, and the other is read in the turns
         move ! (35 ∷ []) $ fsplit ! $ drop ! $ fsplit ! $ use1 W (‵ OwnL ⊛ ‵ OwnL) (shr-slice-copy 𝓤 H A W (named 0) κ₀ ObsR .twice list (v₀ ∷ [])) $
         split ! $
         fsplit ! $ drop ! $ fsplit ! $ drop ! $ move ! (2 ∷ []) $ fsplit ! $ move ! (38 ∷ []) $ split ! $ move ! (1 ∷ []) $ split ! $

@@ -7,14 +7,13 @@ use crate::options::Options;
 use crate::progress::Progress;
 use crate::saves::Saves;
 use crate::start::Start;
-use brothwagon::Refusal;
 use std::io::Write;
 use std::time::{Duration, Instant};
 
 pub fn run(options: &Options, mut start: Start, out: &mut impl Write) -> Result<(), Failure> {
     let steps = options.steps.unwrap_or(start.file.steps);
     // The library is asked even if there is no step to take: it may refuse the settings.
-    start.study.run_past(&start.file.obstacles, 0)?;
+    start.study.ask_past(&start.file.obstacles)?;
     let saves = Saves::of(options);
     saves.prepare(start.step(), steps)?;
     let first = u64::from(start.step());
@@ -44,24 +43,11 @@ fn walk(start: &mut Start, steps: u64, saves: &Saves) -> Result<Duration, Failur
     while done < steps {
         let stretch = progress.next(done).min(saves.ahead(first + done).unwrap_or(u64::MAX));
         let began = Instant::now();
-        stride(start, stretch)?;
+        start.study.run_past(&start.file.obstacles, stretch)?;
         running += began.elapsed();
         done += stretch;
         saves.along(&start.study, first + done, &progress)?;
     }
     saves.end(&start.study, first + steps, &progress)?;
     Ok(running)
-}
-
-/// So many steps, with the obstacles' call after each. Not by `run_past`, which would ask about the list on every stretch: it was
-/// asked about before the first, and that takes as long as two more calls.
-fn stride(Start { study, file, .. }: &mut Start, steps: u64) -> Result<(), Refusal> {
-    if file.obstacles.is_empty() {
-        return study.run(steps);
-    }
-    for _ in 0..steps {
-        study.step()?;
-        study.set_no_slip_bc(&file.obstacles)?;
-    }
-    Ok(())
 }
