@@ -8,7 +8,7 @@
  *    3  3 nu + 0.5 is not finite or below 0.5; or a Trt rate is not finite, below 0 or above 2
  *    4  a force component is not finite
  *    5  a face number is not finite; a Pressure density is not above 0; or a Velocity face has 1 - un equal to 0
- *    6  x, y or direction outside
+ *    6  x, y or direction outside, or the place of any obstacle of a list
  *    7  the lossless question or the reverse meets MovingWall, Velocity or Pressure
  *    8  the reverse on faces that are not lossless
  *    9  steady run: a snapshot has a density or a velocity component that is not finite
@@ -17,8 +17,9 @@
  *   13  a file's version is not 1
  *   14  a file is cut short before the end of its sides
  *   15  a file's count, or its actual length, is wrong
+ *   16  a list of obstacles does not ascend strictly by x + y nx
  *
- * They are tested in the order 1, 2, 3, 4, 5, 10, 6, 7, 8, and of a file that is read in the order 12, 13, 14, 1, 15, 2;
+ * They are tested in the order 1, 2, 3, 4, 5, 10, 6, 16, 7, 8, and of a file that is read in the order 12, 13, 14, 1, 15, 2;
  * the first that applies is answered. Each function below lists the ones that it tests; no other is answered. A refused call
  * (any number but 0, and 9 apart) writes to no lent buffer, and leaves zeros in its small answer array, which every call writes.
  *
@@ -81,6 +82,11 @@ typedef struct {
     double rate; /* of Trt alone */
     brothwagon_face x_min, x_max, y_min, y_max;
 } brothwagon_settings; /* 19 words of 8 bytes */
+
+/* A cell of the grid that an obstacle fills. */
+typedef struct {
+    uint64_t x, y;
+} brothwagon_obstacle;
 
 /* Fills f with the equilibria of the table's densities and velocities.
  * Numbers 1, 2. */
@@ -150,6 +156,14 @@ uint32_t brothwagon_run(const brothwagon_settings *settings, uint64_t steps, dou
 uint32_t brothwagon_run_to_steady_state(const brothwagon_settings *settings, double tolerance, uint64_t max_steps,
                                         uint64_t check_every, double *f, size_t f_length, double *post, size_t post_length,
                                         double *u, size_t u_length, uint64_t answer[3]);
+
+/* Swaps the populations of each cell of the list with those of their opposite directions, as a wall in that cell throws them
+ * back; every other entry keeps its bits, and a second call with the same list undoes the first. The list has list_count
+ * obstacles, which ascend strictly by x + y nx; an empty one changes nothing. A study with posts calls it after each step.
+ * Number 6 is tested over the whole list, then 16.
+ * Numbers 1, 2, 6, 16; then f is as it was. */
+uint32_t brothwagon_set_no_slip_bc(const brothwagon_settings *settings, const brothwagon_obstacle *list, size_t list_count,
+                                   double *f, size_t f_length);
 
 /* Writes the checkpoint file of f, with that step number, into file, which has 13 + 72 nx ny bytes.
  * Numbers 1, 2; then file is as it was. */

@@ -1,12 +1,16 @@
 //! Times the port, on each of its levels, against the Rust that it carries over, and checks that all end alike.
 
+mod by_level;
 mod checkpoint;
+mod obstacles;
 mod picture;
 mod runner;
 mod study;
 mod table;
 mod worker;
 
+use checkpoint::Checkpoint;
+use obstacles::Obstacles;
 use runner::{Runner, ends_apart};
 use source::levels::levels;
 use std::env;
@@ -23,6 +27,7 @@ const HELP: &str = "\
 bench/run [SOURCE] [--quick] [--seconds S] [--sides N,..] [--kinds KIND,..] [--densities N,..] [--machine NAME] [--svg FILE]
           [--page FILE]
 bench/run [SOURCE] --checkpoints [--quick] [--machine NAME]
+bench/run [SOURCE] --obstacles [--quick] [--machine NAME]
 
 Times the port against the Rust of SOURCE (../shared/docs/src by default), built for release: closed boxes of 240, 256, 512
 and 1024 cells a side, from a start at density 1 and one at density 10, with Trt (magic number 3/16), Bgk and Mrt, each
@@ -36,9 +41,14 @@ bit. The table has the milliseconds of a step of the Rust, and for the others th
 then the part of the highest level's time that the copy takes: from a half on, memory is what limits that line, below it the
 arithmetic.
 
-Last, or alone (--checkpoints), come checkpoint files of 1024 by 1024 cells: on each level, the milliseconds of a plain copy
+Then, or alone (--checkpoints), come checkpoint files of 1024 by 1024 cells: on each level, the milliseconds of a plain copy
 of a file's bytes, and how many times as long it takes to write and to read one, again by the shortest of the turns. What is
 written and read must be as the format has it, byte for byte.
+
+Last, or alone (--obstacles), come obstacles in a closed box of 256 by 256 cells with Trt: on each level, the milliseconds of
+a step of `run` without obstacles, and how many times as long a step takes by a call of its own, alone and with a call for the
+obstacles after it: in one cell, and in a square of a hundredth of all cells; by the shortest of five times as many turns.
+Each must end like the Rust, bit for bit.
 
 --sides, --kinds (trt, bgk, mrt) and --densities narrow the table. --svg draws it; --page puts it and the checkpoints, in
 Markdown, between the lines `<!-- measured -->` and `<!-- end of measured -->` of FILE. --machine is the name that both give
@@ -59,13 +69,23 @@ struct Plan {
     page: Option<PathBuf>,
     /// The checkpoint files alone.
     checkpoints: bool,
+    /// The obstacles alone.
+    obstacles: bool,
+}
+
+impl Plan {
+    /// Whether all is timed.
+    fn whole(&self) -> bool {
+        !self.checkpoints && !self.obstacles
+    }
 }
 
 fn main() -> ExitCode {
     let words: Vec<String> = env::args().skip(1).collect();
     let words: Vec<&str> = words.iter().map(String::as_str).collect();
     let ended = match words[..] {
-        ["--worker", "checkpoint"] => checkpoint::work(),
+        ["--worker", "checkpoint"] => by_level::work(Checkpoint::new()),
+        ["--worker", "obstacles"] => by_level::work(Obstacles::new()),
         ["--worker", role] => worker::work(role),
         ["--help"] => {
             println!("{HELP}");
@@ -99,6 +119,7 @@ fn plan(words: &[&str]) -> Option<Plan> {
         svg: None,
         page: None,
         checkpoints: false,
+        obstacles: false,
     };
     let mut words = words.iter();
     while let Some(&word) = words.next() {
@@ -106,6 +127,7 @@ fn plan(words: &[&str]) -> Option<Plan> {
         match word {
             "--quick" => (plan.seconds, plan.turns) = (0.3, 3),
             "--checkpoints" => plan.checkpoints = true,
+            "--obstacles" => plan.obstacles = true,
             "--seconds" => plan.seconds = value()?.parse().ok().filter(|&seconds| seconds > 0.0)?,
             "--sides" => plan.sides = each(value()?, |side| side.parse().ok())?,
             "--kinds" => plan.kinds = each(value()?, |kind| KINDS.iter().position(|&(word, _)| word == kind))?,
@@ -117,8 +139,7 @@ fn plan(words: &[&str]) -> Option<Plan> {
         }
     }
     // A page and a picture are of the whole table.
-    let alone = plan.checkpoints && plan.svg.is_none() && plan.page.is_none();
-    (alone || !plan.checkpoints).then_some(plan)
+    (plan.whole() || plan.svg.is_none() && plan.page.is_none()).then_some(plan)
 }
 
 /// The values of a list.
@@ -146,16 +167,22 @@ fn bench(plan: &Plan) -> io::Result<()> {
     // A page that cannot be filled in is known before anything is timed.
     let page = plan.page.as_ref().map(|path| Ok::<_, io::Error>((path, parted(&fs::read_to_string(path)?)?))).transpose()?;
     println!("{}", plan.machine);
-    let report = if plan.checkpoints { None } else { Some(steps(plan)?) };
-    let checkpoints = checkpoint::times(plan.turns)?;
-    println!("{}every file is as the format has it, byte for byte", checkpoint::text(&checkpoints));
-    let Some(report) = report else { return Ok(()) };
-    if let Some(path) = &plan.svg {
-        fs::write(path, picture::picture(&report))?;
+    let report = if plan.whole() { Some(steps(plan)?) } else { None };
+    let mut tables: Vec<String> = report.iter().map(Report::markdown).collect();
+    if plan.whole() || plan.checkpoints {
+        let rows = checkpoint::table(plan.turns)?;
+        println!("{}every file is as the format has it, byte for byte", by_level::text(&rows));
+        tables.push(by_level::markdown(&rows));
+    }
+    if plan.whole() || plan.obstacles {
+        let rows = obstacles::table(plan.turns)?;
+        println!("{}all end like the Rust, bit for bit", by_level::text(&rows));
+    }
+    if let (Some(path), Some(report)) = (&plan.svg, &report) {
+        fs::write(path, picture::picture(report))?;
     }
     if let Some((path, (before, after))) = page {
-        let tables = format!("{}\n{}", report.markdown(), checkpoint::markdown(&checkpoints));
-        fs::write(path, format!("{before}{FROM}\n{}.\n\n{tables}\n{TO}{after}", report.machine))?;
+        fs::write(path, format!("{before}{FROM}\n{}.\n\n{}\n{TO}{after}", plan.machine, tables.join("\n")))?;
     }
     Ok(())
 }

@@ -34,6 +34,7 @@ pub fn call(case: &Case, lent: &mut Lent) -> Answer {
                 ffi::run_to_steady_state(s, case.tolerance, *steps, case.check_every, f, post, u);
             Answer { number, words: [settled, taken, residual, 0] }
         }
+        Operation::SetNoSlipBc => bare(ffi::set_no_slip_bc(s, &case.list, f)),
     }
 }
 

@@ -1,6 +1,7 @@
 //! One call of the library, with all that it is given.
 
 use crate::made::Made;
+use crate::rules;
 use brothwagon::ffi;
 use source::d2q9::W;
 use std::fmt;
@@ -20,9 +21,10 @@ pub enum Operation {
     Step,
     Run,
     RunToSteadyState,
+    SetNoSlipBc,
 }
 
-pub const OPERATIONS: [Operation; 13] = [
+pub const OPERATIONS: [Operation; 14] = [
     Operation::Initialize,
     Operation::Density,
     Operation::Velocity,
@@ -36,6 +38,7 @@ pub const OPERATIONS: [Operation; 13] = [
     Operation::Step,
     Operation::Run,
     Operation::RunToSteadyState,
+    Operation::SetNoSlipBc,
 ];
 
 /// The lent buffers.
@@ -123,6 +126,8 @@ pub struct Case {
     pub x: usize,
     pub y: usize,
     pub direction: usize,
+    pub list: Vec<ffi::Obstacle>,
+    /// The steps of a run, or those before obstacles throw back.
     pub steps: u64,
     pub check_every: u64,
     pub tolerance: f64,
@@ -174,6 +179,13 @@ impl Case {
         into[length..].fill_with(|| made.bits());
     }
 
+    /// The run that comes before the call, so that obstacles also throw back what steps have made.
+    pub fn before(&self) -> Option<Case> {
+        let comes_first = self.operation == Operation::SetNoSlipBc && self.steps > 0;
+        let run = comes_first.then(|| Case { operation: Operation::Run, ..self.clone() });
+        run.filter(|run| rules::number(run) == 0)
+    }
+
     /// The four faces, in the order in which they are applied.
     pub fn faces(&self) -> [ffi::Face; 4] {
         let ffi::Settings { x_min, x_max, y_min, y_max, .. } = self.settings;
@@ -223,9 +235,20 @@ impl Case {
             Operation::RunToSteadyState => {
                 format!("\n  steps {}, check every {}, tolerance {:?}", self.steps, self.check_every, self.tolerance)
             }
+            Operation::SetNoSlipBc => {
+                let steps = self.before().map_or(0, |run| run.steps);
+                format!("\n  steps before {steps}, obstacles {}{}", self.list.len(), first_places(&self.list))
+            }
             _ => String::new(),
         }
     }
+}
+
+/// The places of a list's first obstacles.
+fn first_places(list: &[ffi::Obstacle]) -> String {
+    const MOST: usize = 24;
+    let places = list.iter().take(MOST).map(|obstacle| format!(" ({}, {})", obstacle.x, obstacle.y));
+    places.chain((list.len() > MOST).then(|| " ..".to_string())).collect()
 }
 
 fn face_name(face: ffi::Face) -> String {

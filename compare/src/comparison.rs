@@ -25,10 +25,21 @@ pub type Difference = String;
 
 impl Comparison {
     pub fn compare(&mut self, case: &Case) -> Result<Seen, Difference> {
-        for &buffer in case.operation.lent() {
+        let before = case.before();
+        for &buffer in before.as_ref().unwrap_or(case).operation.lent() {
             case.fill(buffer, &mut self.rust.0[buffer]);
             self.port.0[buffer].clone_from(&self.rust.0[buffer]);
         }
+        let Some(run) = before else { return self.compare_call(case) };
+        let entries = self.compare_call(&run)?.entries;
+        // Alike but for the NaNs that steps made: from here on the Rust has the port's, and copies them bit for bit.
+        self.rust.0[F].clone_from(&self.port.0[F]);
+        let seen = self.compare_call(case)?;
+        Ok(Seen { entries: entries + seen.entries, ..seen })
+    }
+
+    /// One call on both sides' buffers as they are.
+    fn compare_call(&mut self, case: &Case) -> Result<Seen, Difference> {
         let before = self.listed;
         let wanted = expected(case, &mut self.rust, &mut self.listed);
         let got = call(case, &mut self.port);

@@ -1,6 +1,6 @@
 //! The recorded differences: each row of docs/DIFFERENCES.md that has an input, asked of the Rust and of the library.
 
-use brothwagon::ffi::{self, Face, Settings};
+use brothwagon::ffi::{self, Face, Obstacle, Settings};
 use source::{Solver, solver};
 use std::fmt::Debug;
 use std::panic::{self, AssertUnwindSafe, catch_unwind};
@@ -20,7 +20,7 @@ const MINUS_INFINITY: f64 = f64::NEG_INFINITY;
 pub fn show() -> ExitCode {
     // A panic of the Rust is an answer here.
     panic::set_hook(Box::new(|_| ()));
-    let rows: Vec<Row> = [sums(), steady_runs(), places(), refusals()].into_iter().flatten().collect();
+    let rows: Vec<Row> = [sums(), steady_runs(), places(), obstacles(), refusals()].into_iter().flatten().collect();
     let mut wrong = 0;
     for row in &rows {
         println!("{}\n  the Rust: {}\n  the port: {}", row.asked, row.rust.1, row.port.1);
@@ -146,6 +146,29 @@ fn places() -> Vec<Row> {
             ("panics", answers(|| on(&one, &[0.0; 9]).density(1, 0))),
             ("number 6", number(ffi::density(&one, &[0.0; 9], 1, 0).0)),
         ),
+    ]
+}
+
+/// Obstacles in a grid whose populations are their own indices: what the Rust leaves of populations 1 and 3 of the last cell,
+/// and the port's number.
+fn thrown_back(asked: &'static str, (nx, ny): (u64, u64), list: &[Obstacle], rust: &'static str, port: &'static str) -> Row {
+    let (s, cells) = (settings(nx, ny), (nx * ny) as usize);
+    let mut f: Vec<f64> = (0..9 * cells).map(|at| at as f64).collect();
+    let left = answers(|| {
+        let mut solver = on(&s, &f);
+        solver.set_no_slip_bc(list);
+        (solver.f()[2 * cells - 1], solver.f()[4 * cells - 1])
+    });
+    row(asked, (rust, left), (port, number(ffi::set_no_slip_bc(&s, list, &mut f))))
+}
+
+fn obstacles() -> Vec<Row> {
+    let at = |x, y| Obstacle { x, y };
+    vec![
+        thrown_back("an obstacle at (3, 0), 2 by 2", (2, 2), &[at(3, 0)], "(15.0, 7.0)", "number 6"),
+        thrown_back("an obstacle at (1, 0), 1 by 1", (1, 1), &[at(1, 0)], "panics", "number 6"),
+        thrown_back("an obstacle at (0, 0) twice, 1 by 1", (1, 1), &[at(0, 0); 2], "(1.0, 3.0)", "number 16"),
+        thrown_back("obstacles at (1, 0) and (0, 0), 2 by 1", (2, 1), &[at(1, 0), at(0, 0)], "(7.0, 3.0)", "number 16"),
     ]
 }
 

@@ -89,6 +89,7 @@ fn done(case: &Case, lent: &mut Lent, listed: &mut Listed) -> Answer {
         Operation::Step => ask(case, f, post, |rust| advance(case, rust, 1, listed)),
         Operation::Run => ask(case, f, post, |rust| advance(case, rust, steps, listed)),
         Operation::RunToSteadyState => return ask(case, f, post, |rust| steady(case, rust, u, listed)),
+        Operation::SetNoSlipBc => ask(case, f, post, |rust| rust.set_no_slip_bc(&case.list)),
     }
     Answer { number: 0, words }
 }

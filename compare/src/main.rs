@@ -30,9 +30,9 @@ compare/run [SOURCE] .. --levels
 
 Compares the proved library with the Rust of SOURCE (../shared/docs/src by default), through the C interface, on N made-up
 cases (1,000,000; --quick: 100,000). Each case is one call: its number, its answers and every entry of every lent buffer are
-compared, and so are refused calls, by the table of the rules. --only compares one case of the list that the seed starts,
-and shows it. The first difference that is not listed ends it, with the smallest case found that still differs, and exit
-status 1.
+compared, and so are refused calls, by the table of the rules. Before a call with obstacles come some steps, or none, which
+are compared as well. --only compares one case of the list that the seed starts, and shows it. The first difference that is
+not listed ends it, with the smallest case found that still differs, and exit status 1.
 
 Before the cases, or alone (--checkpoints), come checkpoint files, which the Rust does not know: the library is compared
 with a reading of the format's own words. It is given every prefix of two small files, every value of each byte before the
@@ -63,9 +63,12 @@ struct Tally {
     cases: u64,
     entries: u64,
     by_operation: [u64; OPERATIONS.len()],
-    /// Those answered with each number, 0 to 10.
-    by_number: [u64; 11],
+    /// Those answered with each number.
+    by_number: [u64; 17],
 }
+
+/// The numbers that these calls can answer.
+const NUMBERS: [usize; 12] = [0, 1, 2, 3, 4, 5, 6, 7, 8, 9, 10, 16];
 
 fn main() -> ExitCode {
     let words: Vec<String> = env::args().skip(1).collect();
@@ -164,8 +167,8 @@ fn report(plan: &Plan, tally: &Tally, comparison: &Comparison) {
     for (operation, cases) in OPERATIONS.iter().zip(tally.by_operation) {
         println!("  {:<18}{cases:>9} cases", format!("{operation:?}"));
     }
-    for (number, cases) in tally.by_number.iter().enumerate() {
-        println!("  number {number:<11}{cases:>9} cases");
+    for number in NUMBERS {
+        println!("  number {number:<11}{:>9} cases", tally.by_number[number]);
     }
     println!("listed differences: {} sums of -0.0 only", comparison.listed.sums);
     println!("                    {} steady runs over a bad snapshot", comparison.listed.snapshots);
@@ -176,8 +179,8 @@ fn report(plan: &Plan, tally: &Tally, comparison: &Comparison) {
 
 /// A long comparison that never met some number, or number 9 for a density alone, would say little.
 fn reached_all(tally: &Tally, comparison: &Comparison) -> ExitCode {
-    let numbers = tally.by_number.iter().enumerate().filter(|&(_, &cases)| cases == 0);
-    let mut missed: Vec<String> = numbers.map(|(number, _)| number.to_string()).collect();
+    let numbers = NUMBERS.into_iter().filter(|&number| tally.by_number[number] == 0);
+    let mut missed: Vec<String> = numbers.map(|number| number.to_string()).collect();
     if comparison.listed.densities == 0 {
         missed.push("9 for a density alone".to_string());
     }

@@ -12,12 +12,13 @@ const LARGE: [(u64, u64); 9] =
     [(4096, 256), (256, 4096), (1024, 1024), (4096, 1), (1, 4096), (240, 240), (256, 256), (700, 300), (4095, 255)];
 
 /// The operations on whole grids, those that write populations first.
-const WHOLE: [Operation; 10] = [
+const WHOLE: [Operation; 11] = [
     Operation::Step,
     Operation::Run,
     Operation::StreamWithFaces,
     Operation::RunToSteadyState,
     Operation::Initialize,
+    Operation::SetNoSlipBc,
     Operation::VelocityField,
     Operation::Reverse,
     Operation::TotalMass,
@@ -48,8 +49,8 @@ pub fn case(seed: u64, place: u64) -> Case {
     if place.is_multiple_of(BETWEEN_LARGE) {
         return large(&mut made, place / BETWEEN_LARGE);
     }
-    // One half is of the operations that write whole populations.
-    let operation = if made.one_in(2) { made.pick(&OPERATIONS) } else { made.pick(&WHOLE[..5]) };
+    // One half is of the operations that write populations.
+    let operation = if made.one_in(2) { made.pick(&OPERATIONS) } else { made.pick(&WHOLE[..6]) };
     let sides = sides(&mut made, operation);
     let mut case = good(&mut made, operation, sides);
     // Two faults at once show which is tested first.
@@ -61,9 +62,8 @@ pub fn case(seed: u64, place: u64) -> Case {
 
 /// The large grids in turn, each time with other operations.
 fn large(made: &mut Made, turn: u64) -> Case {
-    let sides = LARGE[turn as usize % LARGE.len()];
-    let operation = WHOLE[(turn as usize / LARGE.len() + turn as usize) % WHOLE.len()];
-    let mut case = good(made, operation, sides);
+    let (round, at) = (turn as usize / LARGE.len(), turn as usize % LARGE.len());
+    let mut case = good(made, WHOLE[(round + at) % WHOLE.len()], LARGE[at]);
     case.steps = 1 + made.below(3);
     case
 }
@@ -84,6 +84,10 @@ fn good(made: &mut Made, operation: Operation, (nx, ny): (u64, u64)) -> Case {
     let (collision, rate, magic) = collision(made, nu);
     let (fx, fy) = force(made);
     let [x_min, x_max, y_min, y_max] = faces(made, copying);
+    let (list, steps) = match operation {
+        Operation::SetNoSlipBc => (list(made, nx, ny), made.pick(&[0, 0, 0, 1, 2, 5])),
+        _ => (Vec::new(), steps(made, nx * ny)),
+    };
     Case {
         operation,
         settings: ffi::Settings { nx, ny, nu, fx, fy, collision, rate, x_min, x_max, y_min, y_max },
@@ -94,9 +98,24 @@ fn good(made: &mut Made, operation: Operation, (nx, ny): (u64, u64)) -> Case {
         x: made.below(nx) as usize,
         y: made.below(ny) as usize,
         direction: made.below(9) as usize,
-        steps: steps(made, nx * ny),
+        list,
+        steps,
         check_every: made.pick(&[0, 1, 1, 2, 3, 5, 1000, u64::MAX]),
         tolerance: made.pick(&[0.0, 1e-3, 1e-2, 0.1, 1.0, f64::INFINITY, -1.0, 1e-300]),
+    }
+}
+
+/// Obstacles that ascend: in no cell, in one, in few, in many or in all.
+fn list(made: &mut Made, nx: u64, ny: u64) -> Vec<ffi::Obstacle> {
+    let obstacle = |cell: u64| ffi::Obstacle { x: (cell % nx) as usize, y: (cell / nx) as usize };
+    let cells = nx * ny;
+    match made.below(8) {
+        0 => Vec::new(),
+        1 => vec![obstacle(made.below(cells))],
+        _ => {
+            let chances = made.pick(&[1, 2, 4, 16, 100]);
+            (0..cells).filter(|_| made.one_in(chances)).map(obstacle).collect()
+        }
     }
 }
 
@@ -181,8 +200,18 @@ fn steps(made: &mut Made, cells: u64) -> u64 {
 }
 
 /// Each makes one thing of a case wrong. What the operation does not take must not matter.
-const FAULTS: [fn(&mut Case, &mut Made); 8] =
-    [wrong_sides, wrong_length, wrong_viscosity, wrong_rate, wrong_force, wrong_face, wrong_place, wrong_run];
+const FAULTS: [fn(&mut Case, &mut Made); 10] = [
+    wrong_sides,
+    wrong_length,
+    wrong_viscosity,
+    wrong_rate,
+    wrong_force,
+    wrong_face,
+    wrong_place,
+    wrong_obstacle,
+    wrong_order,
+    wrong_run,
+];
 
 fn wrong_sides(case: &mut Case, made: &mut Made) {
     let ffi::Settings { nx, ny, .. } = case.settings;
@@ -242,6 +271,36 @@ fn wrong_place(case: &mut Case, made: &mut Made) {
     let (nx, ny) = (case.settings.nx as usize, case.settings.ny as usize);
     (case.x, case.y) = made.pick(&[(nx, y), (x, ny), (usize::MAX, y), (x, usize::MAX), (nx, ny)]);
     case.direction = made.pick(&[9, 10, usize::MAX]);
+}
+
+/// An obstacle outside, anywhere in the list; where it is wrapped, x + y nx is still that of its cell.
+fn wrong_obstacle(case: &mut Case, made: &mut Made) {
+    let (nx, ny) = (case.settings.nx as usize, case.settings.ny as usize);
+    if case.list.is_empty() {
+        case.list.push(ffi::Obstacle::default());
+    }
+    let at = made.below(case.list.len() as u64) as usize;
+    let ffi::Obstacle { x, y } = case.list[at];
+    let far = made.pick(&[1 << 32, 1 << 63, usize::MAX]);
+    let beyond = [(nx, y), (x, ny), (far, y), (x, far), (nx, ny), (far, far)];
+    let wrapped = [(x.wrapping_add(nx), y.wrapping_sub(1)), (x.wrapping_sub(nx), y.wrapping_add(1))];
+    let (x, y) = if made.one_in(3) { made.pick(&wrapped) } else { made.pick(&beyond) };
+    case.list[at] = ffi::Obstacle { x, y };
+}
+
+/// An obstacle twice, a pair that falls, two in each other's place, or all of them by y + x ny.
+fn wrong_order(case: &mut Case, made: &mut Made) {
+    let (a, b) = (made.next() as usize, made.next() as usize);
+    match case.list.len() {
+        0 => {}
+        1 => case.list.push(case.list[0]),
+        count => match made.below(4) {
+            0 => case.list.insert(a % count, case.list[a % count]),
+            1 => case.list.swap(a % (count - 1), a % (count - 1) + 1),
+            2 => case.list.swap(a % count, b % count),
+            _ => case.list.sort_by_key(|obstacle| (obstacle.x, obstacle.y)),
+        },
+    }
 }
 
 fn wrong_run(case: &mut Case, made: &mut Made) {

@@ -1,10 +1,10 @@
 //! The numbers that a call answers, from the table of the rules and not from the port.
 
 use crate::case::{Case, Operation};
-use brothwagon::ffi::{Face, Settings};
+use brothwagon::ffi::{Face, Obstacle, Settings};
 
 /// The order in which the numbers are tested.
-const ORDER: [u32; 9] = [1, 2, 3, 4, 5, 10, 6, 7, 8];
+const ORDER: [u32; 10] = [1, 2, 3, 4, 5, 10, 6, 16, 7, 8];
 
 /// The most steps of one run.
 pub const MOST_STEPS: u64 = 1_000_000;
@@ -27,6 +27,7 @@ fn tested(operation: Operation) -> &'static [u32] {
         Operation::Reverse => &[1, 2, 5, 7, 8],
         Operation::Step => &[1, 2, 3, 4, 5],
         Operation::Run | Operation::RunToSteadyState => &[1, 2, 3, 4, 5, 10],
+        Operation::SetNoSlipBc => &[1, 2, 6, 16],
     }
 }
 
@@ -46,8 +47,13 @@ fn applies(number: u32, case: &Case) -> bool {
         10 => case.steps > MOST_STEPS || case.operation == Operation::RunToSteadyState && case.tolerance.is_nan(),
         6 => match case.operation {
             Operation::Plane => case.direction > 8,
-            _ => case.x as u64 >= s.nx || case.y as u64 >= s.ny,
+            Operation::SetNoSlipBc => case.list.iter().any(|obstacle| outside(s, obstacle.x, obstacle.y)),
+            _ => outside(s, case.x, case.y),
         },
+        16 => {
+            let place = |obstacle: &Obstacle| obstacle.x as u64 + obstacle.y as u64 * s.nx;
+            !case.list.is_sorted_by(|one, next| place(one) < place(next))
+        }
         7 => case.faces().iter().any(|face| ![0, 1, 3].contains(&face.kind)),
         8 => lossy(case),
         _ => unreachable!("no test has the number {number}"),
@@ -75,6 +81,11 @@ fn wrong_face(face: Face, un: f64) -> bool {
         5 => !face.a.is_finite() || face.a <= 0.0,
         _ => true,
     }
+}
+
+/// Number 6, for one place.
+fn outside(s: &Settings, x: usize, y: usize) -> bool {
+    x as u64 >= s.nx || y as u64 >= s.ny
 }
 
 /// Number 8.

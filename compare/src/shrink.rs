@@ -4,25 +4,29 @@ use crate::case::{Case, Start};
 use crate::comparison::{Comparison, Difference};
 use brothwagon::ffi;
 
+/// So many obstacles are left out one by one.
+const FEW: usize = 16;
+
 /// Takes any simpler case that still differs, until there is none.
 pub fn smallest(comparison: &mut Comparison, mut case: Case, mut difference: Difference) -> (Case, Difference) {
-    while let Some(found) =
-        simpler(&case).into_iter().find_map(|case| comparison.compare(&case).err().map(|difference| (case, difference)))
-    {
+    while let Some(found) = simpler(comparison, &case) {
         (case, difference) = found;
     }
     (case, difference)
 }
 
-/// Cases that are simpler in one thing, the boldest first.
-fn simpler(case: &Case) -> Vec<Case> {
-    let mut tries = Vec::new();
+/// The first case that is simpler in one thing and still differs; the boldest are tried first.
+fn simpler(comparison: &mut Comparison, case: &Case) -> Option<(Case, Difference)> {
+    let mut found = None;
     let mut with = |change: &dyn Fn(&mut Case)| {
+        if found.is_some() {
+            return;
+        }
         let mut simpler = case.clone();
         change(&mut simpler);
-        // By what they say, since a NaN is not equal to itself.
-        if simpler.to_string() != case.to_string() {
-            tries.push(simpler);
+        // By what they say, since a NaN is not equal to itself; of a long list it is not all said.
+        if simpler.to_string() != case.to_string() || simpler.list != case.list {
+            found = comparison.compare(&simpler).err().map(|difference| (simpler, difference));
         }
     };
     // None is more than what it starts from, so that this ends.
@@ -31,6 +35,7 @@ fn simpler(case: &Case) -> Vec<Case> {
         with(&|case| case.settings.ny = less(case.settings.ny));
         with(&|case| case.steps = less(case.steps));
     }
+    simpler_lists(&mut with, case.list.len());
     for at in 0..4 {
         with(&|case| *case.face_mut(at) = ffi::Face::default());
         if case.faces()[at].kind > 1 {
@@ -51,5 +56,16 @@ fn simpler(case: &Case) -> Vec<Case> {
     with(&|case| case.direction = 0);
     with(&|case| case.check_every = 1);
     with(&|case| case.tolerance = 0.0);
-    tries
+    found
+}
+
+/// Fewer obstacles, or nearer ones.
+fn simpler_lists(with: &mut dyn FnMut(&dyn Fn(&mut Case)), obstacles: usize) {
+    with(&|case| case.list.truncate(obstacles / 2));
+    with(&|case| drop(case.list.drain(..obstacles / 2)));
+    for at in 0..obstacles.min(FEW) {
+        with(&|case| drop(case.list.drain(at..=at)));
+    }
+    with(&|case| case.list.iter_mut().for_each(|obstacle| obstacle.x /= 2));
+    with(&|case| case.list.iter_mut().for_each(|obstacle| obstacle.y /= 2));
 }

@@ -1,6 +1,6 @@
 //! The studies of the repository, from their starts, by the Rust and by the library.
 
-use brothwagon::{Face, Refusal, StudyFile, ffi, fingerprint};
+use brothwagon::{Face, Obstacle, Refusal, StudyFile, ffi, fingerprint};
 use source::Solver;
 use std::process::ExitCode;
 
@@ -16,10 +16,11 @@ const FASTEST: f64 = 0.3;
 /// The part of its mass by which a closed study may drift, through rounding.
 const DRIFT: f64 = 1e-9;
 
-const STUDIES: [(&str, &str); 3] = [
+const STUDIES: [(&str, &str); 4] = [
     ("cavity", include_str!("../../studies/cavity.study")),
     ("channel", include_str!("../../studies/channel.study")),
     ("shear", include_str!("../../studies/shear.study")),
+    ("post", include_str!("../../studies/post.study")),
 ];
 
 /// Runs each study, all its steps if `whole`, and prints the fingerprint that the Rust gives it. Fails where the library gives
@@ -62,8 +63,8 @@ fn run(file: &StudyFile, steps: u64) -> Result<String, String> {
             return Ok(format!("{end}; mass {mass:?}, at the start {started:?}, highest speed {highest:.4}"));
         }
         let part = PART.min(steps - done);
-        rust.run(part as usize);
-        port.run(part).map_err(refused)?;
+        run_past(&mut *rust, &file.obstacles, part);
+        port.run_past(&file.obstacles, part).map_err(refused)?;
         done += part;
     }
 }
@@ -76,6 +77,14 @@ fn by_rust(file: &StudyFile) -> Box<dyn Solver> {
     let mut solver = source::solver(&ffi::Settings::from(&file.settings), file.magic, zeros.clone(), zeros);
     solver.initialize(&table);
     solver
+}
+
+/// The Rust's steps, with the obstacles' cells after each.
+fn run_past(rust: &mut dyn Solver, obstacles: &[Obstacle], steps: u64) {
+    for _ in 0..steps {
+        rust.run(1);
+        rust.set_no_slip_bc(obstacles);
+    }
 }
 
 /// The highest speed of a velocity field; infinite where a component is not finite.

@@ -23,6 +23,8 @@ pub trait Solver {
     fn collide(&mut self);
     fn stream_with_faces(&mut self);
     fn apply_faces(&mut self);
+    /// One cell of the list after the other.
+    fn set_no_slip_bc(&mut self, list: &[ffi::Obstacle]);
     fn run(&mut self, steps: usize);
     fn run_to_steady_state(&mut self, tolerance: f64, max_steps: usize, check_every: usize) -> (usize, f64);
 }
@@ -121,6 +123,12 @@ macro_rules! solver_of {
 
             fn apply_faces(&mut self) {
                 self.apply_boundaries();
+            }
+
+            fn set_no_slip_bc(&mut self, list: &[ffi::Obstacle]) {
+                for &ffi::Obstacle { x, y } in list {
+                    Self::set_no_slip_bc(self, x, y);
+                }
             }
 
             fn run(&mut self, steps: usize) {

@@ -3,6 +3,7 @@
 use checkpoint::Stored;
 use lossless::Answer;
 use runs::Steady;
+use settings::Obstacle;
 ghost use mathlib.Core.Path.{_≡_};
 ghost use Rattle.settings.specs.Outcome.{outcome};
 ghost use Rattle.streaming.specs.Streaming.{streamedWithFaces};
@@ -10,6 +11,7 @@ ghost use Rattle.lossless.specs.Lossless.{reply, losslessOf, reversedOf};
 ghost use Rattle.readings.specs.Readings.{initialized, densityRead, velocityRead, velocityFieldRead, totalMassRead, kineticEnergyRead};
 ghost use Rattle.runs.specs.Steps.{left, stepOf, runOf};
 ghost use Rattle.runs.specs.Steady.{steadyOf};
+ghost use Rattle.obstacles.specs.Obstacles.{noSlipSet};
 ghost use Rattle.checkpoint.specs.Checkpoint.{checkpointWritten, checkpointSides, checkpointRead};
 ghost use Rattle.host.specs.Host.{settingsOf};
 ghost use Rattle.brothwagon.specs.Exported.{readingTold, velocityTold, planeTold, losslessTold, steadyLeft, steadyTold, storedTold, readLeft, readTold};
@@ -195,6 +197,17 @@ pub extern "C" fn brothwagon_run_to_steady_state(
             9
         }
     }
+}
+
+// ---- obstacles
+
+// It hands the list on: a library has only what its own crate gives out.
+#[no_mangle]
+pub extern "C" fn brothwagon_set_no_slip_bc(w: &[u64; 19], list: &[Obstacle], f: &mut [u64]) -> u32
+    ensures { λ r. ⌜ outcome r (now (f .exit))
+        ≡ noSlipSet (settingsOf (now (w .entry))) (now (list .entry)) (now (f .entry)) ⌝ }
+{
+    obstacles::set_no_slip_bc(host::settings_of(w), list, f)
 }
 
 // ---- the checkpoint file

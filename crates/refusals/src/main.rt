@@ -1,4 +1,4 @@
-// What is refused, and with which number: every operation, on lent buffers full of canaries, and the questions beside them.
+// What is refused, and with which number: every operation but those on files and obstacles, on lent buffers full of canaries, and the questions beside them.
 mod asked;
 mod calls;
 mod given;

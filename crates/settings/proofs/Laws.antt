@@ -10,8 +10,8 @@ use borrow.Author.Tests.{ltb-false, leb-false, eqb-true, not-false}
 use Rattle.grid.specs.Grid.{Grid, mostSide, mostCells}
 use Rattle.settings.specs.declared.Head.{Head}
 use Rattle.settings.specs.declared.Settings.{Settings}
-use Rattle.settings.specs.Tests.{sideBad, sidesBad, lengthBad, bytesBad, ratesBad, forceBad, facesBad, stepsBad, mostSteps, placeBad, directionBad, driven, lossy, countBad}
-use Rattle.settings.specs.Refusals.{Test, row, first, Call, tests, refusal, sides, lengths, rates, force, faces, kinds, losses, tolerance, steps, place, direction, bytes, short, version, cut, stored, counted, lent}
+use Rattle.settings.specs.Tests.{sideBad, sidesBad, lengthBad, bytesBad, ratesBad, forceBad, facesBad, stepsBad, mostSteps, placeBad, directionBad, outside, falls, driven, lossy, countBad}
+use Rattle.settings.specs.Refusals.{Test, row, first, Call, tests, refusal, sides, lengths, rates, force, faces, kinds, losses, tolerance, steps, place, direction, places, ascent, bytes, short, version, cut, stored, counted, lent}
 
 -- ---- what a test tells
 
@@ -102,6 +102,8 @@ Tells (force s) = forceBad s ≡ false
 Tells (faces s) = facesBad s ≡ false
 Tells (place s x y) = Inside s x y
 Tells (direction i) = i < 9
+Tells (places s list) = outside (s .nx) (s .ny) list ≡ false
+Tells (ascent s list) = falls (s .nx) list ≡ false
 Tells (kinds s) = driven s ≡ false
 Tells (losses s) = lossy s ≡ false
 Tells (tolerance t) = isNan t ≡ false
@@ -122,6 +124,8 @@ tells (force s) e = e
 tells (faces s) e = e
 tells (place s x y) e = place-ok s x y e
 tells (direction i) e = direction-ok i e
+tells (places s list) e = e
+tells (ascent s list) e = e
 tells (kinds s) e = e
 tells (losses s) e = e
 tells (tolerance t) e = e
@@ -150,6 +154,8 @@ positive (force s) = tt
 positive (faces s) = tt
 positive (place s x y) = tt
 positive (direction i) = tt
+positive (places s list) = tt
+positive (ascent s list) = tt
 positive (kinds s) = tt
 positive (losses s) = tt
 positive (tolerance t) = tt

@@ -1,7 +1,7 @@
 -- Every operation tests in the one order: its numbers stand as in `order`, whatever the call.
 use mathlib.Core.Path.{_≡_, refl}
 use mathlib.Core.Bool.{true}
-use Rattle.settings.specs.Refusals.{Call, tests, order, follows, initialize, density, velocity, velocityField, totalMass, kineticEnergy, plane, streamWithFaces, lossless, reverse, step, run, runToSteadyState, writeCheckpoint, checkpointSides, readCheckpoint}
+use Rattle.settings.specs.Refusals.{Call, tests, order, follows, initialize, density, velocity, velocityField, totalMass, kineticEnergy, plane, streamWithFaces, lossless, reverse, step, run, runToSteadyState, setNoSlipBc, writeCheckpoint, checkpointSides, readCheckpoint}
 
 pub in-order : (c : Call) → follows order (tests c) ≡ true
 in-order (initialize s table f) = refl
@@ -17,6 +17,7 @@ in-order (reverse s f post) = refl
 in-order (step s f post) = refl
 in-order (run s n f post) = refl
 in-order (runToSteadyState s t n f post u) = refl
+in-order (setNoSlipBc s list f) = refl
 in-order (writeCheckpoint s f n) = refl
 in-order (checkpointSides h) = refl
 in-order (readCheckpoint h f) = refl

@@ -4,8 +4,9 @@ use mathlib.Core.List.{List, [], _∷_}
 use Prim.Native.Nat.{ℕ}
 use lib.Dec.{eqb}
 use lib.Ieee.{Float}
-use Rattle.settings.specs.Tests.{sidesBad, lengthBad, bytesBad, ratesBad, forceBad, facesBad, toleranceBad, stepsBad, placeBad, directionBad, driven, lossy, shortBad, versionBad, cutBad, countBad}
+use Rattle.settings.specs.Tests.{sidesBad, lengthBad, bytesBad, ratesBad, forceBad, facesBad, toleranceBad, stepsBad, placeBad, directionBad, outside, falls, driven, lossy, shortBad, versionBad, cutBad, countBad}
 use Rattle.settings.specs.declared.Head.{Head}
+use Rattle.settings.specs.declared.Obstacle.{Obstacle}
 use Rattle.settings.specs.declared.Settings.{Settings}
 
 -- ---- the tests and their numbers
@@ -18,6 +19,7 @@ pub data Test : Type 0 where
   steps : (n : ℕ) → Test
   place : (s : Settings) (x y : ℕ) → Test
   direction : (i : ℕ) → Test
+  places ascent : (s : Settings) (list : List Obstacle) → Test
   bytes : (s : Settings) (len : ℕ) → Test
   short version cut stored counted : (h : Head) → Test
   lent : (h : Head) (per len : ℕ) → Test
@@ -39,6 +41,8 @@ row (force s) = 4 when forceBad s
 row (faces s) = 5 when facesBad s
 row (place s x y) = 6 when placeBad (s .nx) (s .ny) x y
 row (direction i) = 6 when directionBad i
+row (places s list) = 6 when outside (s .nx) (s .ny) list
+row (ascent s list) = 16 when falls (s .nx) list
 row (kinds s) = 7 when driven s
 row (losses s) = 8 when lossy s
 row (tolerance t) = 10 when toleranceBad t
@@ -58,9 +62,9 @@ first (t ∷ rest) later = cond (row t .bad) (row t .number) (first rest later)
 
 -- ---- the order in which the numbers are tested
 
--- 1, 2, 3, 4, 5, 10, 6, 7, 8, and of a file 12, 13, 14, 1, 15, 2: both stand in this one
+-- 1, 2, 3, 4, 5, 10, 6, 16, 7, 8, and of a file 12, 13, 14, 1, 15, 2: both stand in this one
 abbrev pub order : List ℕ
-order = 12 ∷ 13 ∷ 14 ∷ 1 ∷ 15 ∷ 2 ∷ 3 ∷ 4 ∷ 5 ∷ 10 ∷ 6 ∷ 7 ∷ 8 ∷ []
+order = 12 ∷ 13 ∷ 14 ∷ 1 ∷ 15 ∷ 2 ∷ 3 ∷ 4 ∷ 5 ∷ 10 ∷ 6 ∷ 16 ∷ 7 ∷ 8 ∷ []
 
 -- the list from its first test with another number
 abbrev pub past : ℕ → List Test → List Test
@@ -75,8 +79,8 @@ follows (n ∷ later) ts = follows later (past n ts)
 
 -- ---- the operations
 
--- a call: its settings or the head of its file, the lengths of its lent buffers, and the numbers that are tested
--- (i a direction, n steps, t a tolerance)
+-- a call: its settings or the head of its file, the lengths of its lent buffers, its list of obstacles, and the numbers
+-- that are tested (i a direction, n steps, t a tolerance)
 pub data Call : Type 0 where
   initialize : (s : Settings) (table f : ℕ) → Call
   density : (s : Settings) (f x y : ℕ) → Call
@@ -91,6 +95,7 @@ pub data Call : Type 0 where
   step : (s : Settings) (f post : ℕ) → Call
   run : (s : Settings) (n f post : ℕ) → Call
   runToSteadyState : (s : Settings) (t : Float) (n f post u : ℕ) → Call
+  setNoSlipBc : (s : Settings) (list : List Obstacle) (f : ℕ) → Call
   writeCheckpoint : (s : Settings) (f bytes : ℕ) → Call
   checkpointSides : (h : Head) → Call
   readCheckpoint : (h : Head) (f : ℕ) → Call
@@ -113,6 +118,7 @@ tests (run s n f post) =
 tests (runToSteadyState s t n f post u) =
     sides s ∷ lengths s 9 f ∷ lengths s 9 post ∷ lengths s 2 u ∷ rates s ∷ force s ∷ faces s ∷ tolerance t
     ∷ steps n ∷ []
+tests (setNoSlipBc s list f) = sides s ∷ lengths s 9 f ∷ places s list ∷ ascent s list ∷ []
 tests (writeCheckpoint s f n) = sides s ∷ lengths s 9 f ∷ bytes s n ∷ []
 tests (checkpointSides h) = short h ∷ version h ∷ cut h ∷ stored h ∷ counted h ∷ []
 tests (readCheckpoint h f) = short h ∷ version h ∷ cut h ∷ stored h ∷ counted h ∷ lent h 9 f ∷ []

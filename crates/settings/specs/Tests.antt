@@ -1,6 +1,7 @@
 -- The tests that refuse a call, in the order in which they are made: each holds exactly where its number is to be given.
 -- Number 9 stands with the steady run.
 use mathlib.Core.Bool.{Bool, true, false, not, xor, _&&_, _||_}
+use mathlib.Core.List.{List, [], _∷_}
 use Prim.Native.Nat.{ℕ, _+_, _*_}
 use lib.Dec.{eqb, leb, ltb}
 use lib.Ieee.{Float, isNan, eq, lt}
@@ -16,6 +17,7 @@ use Rattle.grid.specs.Grid.{mostSide, mostCells}
 use Rattle.settings.specs.declared.Face.{Face}
 use Rattle.settings.specs.declared.Face.the-variants.{Periodic, NoSlip, MovingWall, Symmetry, Velocity, Pressure}
 use Rattle.settings.specs.declared.Head.{Head}
+use Rattle.settings.specs.declared.Obstacle.{Obstacle}
 use Rattle.settings.specs.declared.Settings.{Settings}
 
 -- ---- 1: a side or the cell count is outside its range
@@ -98,6 +100,21 @@ placeBad nx ny x y = leb nx x || leb ny y
 
 abbrev pub directionBad : ℕ → Bool
 directionBad i = leb 9 i
+
+-- or the place of any obstacle of a list
+unfoldable pub outside : ℕ → ℕ → List Obstacle → Bool
+outside nx ny [] = false
+outside nx ny (o ∷ rest) = placeBad nx ny (o .x) (o .y) || outside nx ny rest
+
+-- ---- 16: a list of obstacles does not ascend strictly by x + y·nx
+
+abbrev pub placeOf : ℕ → Obstacle → ℕ
+placeOf nx o = o .x + o .y * nx
+
+unfoldable pub falls : ℕ → List Obstacle → Bool
+falls nx [] = false
+falls nx (o ∷ []) = false
+falls nx (o ∷ p ∷ rest) = leb (placeOf nx p) (placeOf nx o) || falls nx (p ∷ rest)
 
 -- ---- 7: a face is MovingWall, Velocity or Pressure
 

@@ -34,6 +34,13 @@ pub struct Settings {
     pub y_max: Face,
 }
 
+// A cell that an obstacle fills. C reads it as two words.
+#[repr(C)]
+pub struct Obstacle {
+    pub x: usize,
+    pub y: usize,
+}
+
 // The length of a checkpoint file, and what stands at its head: 0 for a part that the file does not have whole.
 pub struct Head {
     pub length: usize,
@@ -54,7 +61,7 @@ fn side_bad(n: usize) -> bool
     (n < 1) | (grid::MOST_SIDE < n)
 }
 
-fn sides_bad(nx: usize, ny: usize) -> bool
+pub fn sides_bad(nx: usize, ny: usize) -> bool
     ensures { λ r. ⌜ r ≡ sidesBad nx ny ⌝ }
 {
     // the sides first, since the product of any two need not fit
@@ -192,7 +199,7 @@ fn count_bad(h: Head) -> bool
 
 // ---- the tests with their numbers: each gives its own where its test holds, and else what the later tests gave
 
-fn number_if(bad: bool, number: u32, later: u32) -> u32
+pub fn number_if(bad: bool, number: u32, later: u32) -> u32
     ensures { λ r. ⌜ r ≡ cond bad number later ⌝ }
 {
     if bad { number } else { later }

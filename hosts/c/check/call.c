@@ -77,6 +77,10 @@ static uint32_t run_to_steady_state(const Call *c) {
                                           buffer(POST), c->length[POST], buffer(U), c->length[U], word_answer());
 }
 
+static uint32_t set_no_slip_bc(const Call *c) {
+    return brothwagon_set_no_slip_bc(&c->settings, c->list, c->list_count, buffer(F), c->length[F]);
+}
+
 static uint32_t write_checkpoint(const Call *c) {
     return brothwagon_write_checkpoint(&c->settings, c->step, only_read(F), c->length[F], file(c), c->length[CHECKPOINT]);
 }
@@ -104,6 +108,7 @@ const Operation STEP = {"brothwagon_step", step_once, {1, 1, 0, 0}, 0, 0, {1, 2,
 const Operation RUN = {"brothwagon_run", run, {1, 1, 0, 0}, 0, 0, {1, 2, 3, 4, 5, 10, 0}};
 const Operation RUN_TO_STEADY_STATE = {
     "brothwagon_run_to_steady_state", run_to_steady_state, {1, 1, 1, 0}, 0, 3, {1, 2, 3, 4, 5, 10, 0}};
+const Operation SET_NO_SLIP_BC = {"brothwagon_set_no_slip_bc", set_no_slip_bc, {1, 0, 0, 0}, 0, 0, {1, 2, 6, 16, 0}};
 const Operation WRITE_CHECKPOINT = {"brothwagon_write_checkpoint", write_checkpoint, {1, 0, 0, 0, 1}, 0, 0, {1, 2, 0}};
 const Operation CHECKPOINT_SIDES = {"brothwagon_checkpoint_sides", checkpoint_sides, {0, 0, 0, 0}, 0, 3,
                                     {12, 13, 14, 1, 15, 0}};
@@ -111,9 +116,9 @@ const Operation READ_CHECKPOINT = {"brothwagon_read_checkpoint", read_checkpoint
                                    {12, 13, 14, 1, 15, 2, 0}};
 
 const Operation *const ALL[OPERATIONS] = {
-    &INITIALIZE,        &DENSITY,         &VELOCITY, &VELOCITY_FIELD, &TOTAL_MASS, &KINETIC_ENERGY,      &PLANE,
-    &STREAM_WITH_FACES, &LOSSLESS,        &REVERSE,  &STEP,           &RUN,        &RUN_TO_STEADY_STATE, &WRITE_CHECKPOINT,
-    &CHECKPOINT_SIDES,  &READ_CHECKPOINT};
+    &INITIALIZE,        &DENSITY,          &VELOCITY,       &VELOCITY_FIELD, &TOTAL_MASS, &KINETIC_ENERGY,      &PLANE,
+    &STREAM_WITH_FACES, &LOSSLESS,         &REVERSE,        &STEP,           &RUN,        &RUN_TO_STEADY_STATE, &SET_NO_SLIP_BC,
+    &WRITE_CHECKPOINT,  &CHECKPOINT_SIDES, &READ_CHECKPOINT};
 
 int tests_for(const Operation *operation, uint32_t number) {
     for (const uint32_t *test = operation->tests; *test != 0; test++) {
@@ -145,6 +150,25 @@ static void fill(double *into, int which, size_t count) {
     }
 }
 
+void set_list(Call *call, const brothwagon_obstacle *list, size_t count) {
+    const brothwagon_obstacle behind = {0 - call->settings.nx, 1};
+    for (size_t k = 0; k < OBSTACLES; k++) {
+        call->list[k] = k < count ? list[k] : behind;
+    }
+    call->list_count = count;
+}
+
+/* An obstacle in every cell. */
+static void fill_grid(Call *call) {
+    brothwagon_obstacle list[OBSTACLES];
+    const size_t nx = call->settings.nx, cells = nx * call->settings.ny;
+    for (size_t c = 0; c < cells; c++) {
+        list[c].x = c % nx;
+        list[c].y = c / nx;
+    }
+    set_list(call, list, cells);
+}
+
 Call begin(uint64_t nx, uint64_t ny, const char *format, ...) {
     const size_t a_cell[BUFFERS] = {9, 9, 2, 3, 72};
     va_list arguments;
@@ -163,6 +187,7 @@ Call begin(uint64_t nx, uint64_t ny, const char *format, ...) {
     }
     call.length[CHECKPOINT] += 13;
     call.file_at = 1;
+    fill_grid(&call);
     memset(wanted_answer, 0, sizeof wanted_answer);
     return call;
 }
@@ -215,6 +240,7 @@ void check(const Operation *operation, const Call *call, uint32_t number) {
         differs(operation, "the number", number, seen);
     }
     same(operation, "the settings", &call->settings, &before.settings, sizeof before.settings / 8, 0);
+    same(operation, "the list", call->list, before.list, sizeof before.list / 8, 0);
     for (int which = 0; which < BUFFERS; which++) {
         double expected[GUARD + MOST + GUARD];
         fill(expected, BUFFERS + which, GUARD + MOST + GUARD);

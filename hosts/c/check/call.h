@@ -9,8 +9,9 @@
 /* The lent buffers; the last is a checkpoint file's, of bytes. */
 enum { F, POST, U, TABLE, CHECKPOINT, BUFFERS };
 
-/* The most words of a buffer, the most of an answer, and the words before and behind either that no call may touch. */
-enum { MOST = 64, ANSWERS = 4, GUARD = 8 };
+/* The most words of a buffer, the most of an answer, and the words before and behind either that no call may touch; and the
+ * most obstacles of a list. */
+enum { MOST = 64, ANSWERS = 4, GUARD = 8, OBSTACLES = 8 };
 
 /* All that a call can be given. */
 typedef struct {
@@ -21,6 +22,8 @@ typedef struct {
     uint64_t steps, check_every;
     uint32_t step;
     size_t file_at; /* the byte of its buffer at which a file begins */
+    brothwagon_obstacle list[OBSTACLES];
+    size_t list_count;
 } Call;
 
 typedef struct {
@@ -32,9 +35,9 @@ typedef struct {
 } Operation;
 
 extern const Operation INITIALIZE, DENSITY, VELOCITY, VELOCITY_FIELD, TOTAL_MASS, KINETIC_ENERGY, PLANE, STREAM_WITH_FACES,
-    LOSSLESS, REVERSE, STEP, RUN, RUN_TO_STEADY_STATE, WRITE_CHECKPOINT, CHECKPOINT_SIDES, READ_CHECKPOINT;
+    LOSSLESS, REVERSE, STEP, RUN, RUN_TO_STEADY_STATE, SET_NO_SLIP_BC, WRITE_CHECKPOINT, CHECKPOINT_SIDES, READ_CHECKPOINT;
 
-enum { OPERATIONS = 16 };
+enum { OPERATIONS = 17 };
 extern const Operation *const ALL[OPERATIONS];
 
 /* Whether an operation tests a number. */
@@ -48,8 +51,12 @@ extern uint64_t wanted_answer[ANSWERS];
 uint64_t pattern(double number);
 
 /* Begins a case, named as by printf: buffers of canaries, expected to stay; an answer of zeros; and a call on a grid of this
- * size with buffers of the right lengths, Bgk with tau 2, no force, periodic faces, a file at an odd address, and zeros. */
+ * size with buffers of the right lengths, Bgk with tau 2, no force, periodic faces, a file at an odd address, an obstacle in
+ * every cell, and zeros. */
 Call begin(uint64_t nx, uint64_t ny, const char *format, ...);
+
+/* Makes this list that of the call. Behind it stand places outside whose x + y nx wraps to 0, so that a look at one shows. */
+void set_list(Call *call, const brothwagon_obstacle *list, size_t count);
 
 /* Makes the call, and fails unless it answers this number and leaves what is wanted. */
 void check(const Operation *operation, const Call *call, uint32_t number);
@@ -62,6 +69,7 @@ void check_refusals(void);
 void check_readings(void);
 void check_streaming(void);
 void check_steps(void);
+void check_obstacles(void);
 void check_checkpoints(void);
 
 #endif

@@ -5,7 +5,7 @@
 
 #include <assert.h>
 
-/* A face is three words, settings are nineteen. */
+/* A face is three words, settings are nineteen, an obstacle is two. */
 #define WORD(type, field, place) static_assert(offsetof(type, field) == 8 * (place), #type "." #field " is another word")
 
 static_assert(sizeof(double) == 8, "an entry is one word");
@@ -29,6 +29,10 @@ WORD(brothwagon_settings, x_max, 10);
 WORD(brothwagon_settings, y_min, 13);
 WORD(brothwagon_settings, y_max, 16);
 
+static_assert(sizeof(brothwagon_obstacle) == 8 * 2, "an obstacle has another size");
+WORD(brothwagon_obstacle, x, 0);
+WORD(brothwagon_obstacle, y, 1);
+
 static_assert(BROTHWAGON_PERIODIC == 0, "Periodic is 0");
 static_assert(BROTHWAGON_NO_SLIP == 1, "NoSlip is 1");
 static_assert(BROTHWAGON_MOVING_WALL == 2, "MovingWall is 2");
@@ -40,10 +44,10 @@ static_assert(BROTHWAGON_MRT == 1, "Mrt is 1");
 static_assert(BROTHWAGON_TRT == 2, "Trt is 2");
 
 /* The type of each field: a pointer to it is a pointer to no other. */
-void fields_have_types(brothwagon_face *face, brothwagon_settings *settings);
+void fields_have_types(brothwagon_face *face, brothwagon_settings *settings, brothwagon_obstacle *obstacle);
 
-void fields_have_types(brothwagon_face *face, brothwagon_settings *settings) {
-    uint64_t *const words[] = {&face->kind, &settings->nx, &settings->ny, &settings->collision};
+void fields_have_types(brothwagon_face *face, brothwagon_settings *settings, brothwagon_obstacle *obstacle) {
+    uint64_t *const words[] = {&face->kind, &settings->nx, &settings->ny, &settings->collision, &obstacle->x, &obstacle->y};
     double *const numbers[] = {&face->a, &face->b, &settings->nu, &settings->fx, &settings->fy, &settings->rate};
     brothwagon_face *const faces[] = {&settings->x_min, &settings->x_max, &settings->y_min, &settings->y_max};
     (void)words, (void)numbers, (void)faces;
@@ -88,6 +92,9 @@ uint32_t brothwagon_run(const brothwagon_settings *settings, uint64_t steps, dou
 uint32_t brothwagon_run_to_steady_state(const brothwagon_settings *settings, double tolerance, uint64_t max_steps,
                                         uint64_t check_every, double *f, size_t f_length, double *post, size_t post_length,
                                         double *u, size_t u_length, uint64_t answer[3]);
+
+uint32_t brothwagon_set_no_slip_bc(const brothwagon_settings *settings, const brothwagon_obstacle *list, size_t list_count,
+                                   double *f, size_t f_length);
 
 uint32_t brothwagon_write_checkpoint(const brothwagon_settings *settings, uint32_t step, const double *f, size_t f_length,
                                      uint8_t *file, size_t file_length);

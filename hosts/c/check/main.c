@@ -27,6 +27,7 @@ int main(int words, char **word) {
     check_readings();
     check_streaming();
     check_steps();
+    check_obstacles();
     check_checkpoints();
     printf("check: %lu calls of %d functions, %lu numbers as expected\n", calls_checked, (int)OPERATIONS, numbers_checked);
     return 0;

@@ -83,13 +83,44 @@ static int steps(Call *call, size_t k) {
     return k < COUNT(rows);
 }
 
-/* Place and direction: no function takes both. */
+/* Place and direction, and the place of an obstacle, the first of the list, one between and the last in turn: no function takes
+ * two of the three. In the last four rows x + y nx wraps to a cell, or the low 32 bits are one. */
 static int places(Call *call, size_t k) {
-    const size_t rows[][3] = {{3, 0, 9}, {0, 2, 10}, {SIZE_MAX, 0, SIZE_MAX}, {0, SIZE_MAX, (size_t)1 << 32}};
+    const size_t most = SIZE_MAX, two_to_32 = (size_t)1 << 32;
+    const size_t rows[][3] = {{3, 0, 9},    {0, 2, 10},           {most, 0, most},       {0, most, two_to_32},
+                              {most, 1, 9}, {2, most / 3 + 1, 9}, {two_to_32 + 1, 0, 9}, {1, two_to_32 + 1, 9}};
+    const size_t at[] = {0, call->list_count / 2, call->list_count - 1};
+    if (k < COUNT(at) * COUNT(rows)) {
+        const size_t *row = rows[k / COUNT(at)];
+        const brothwagon_obstacle outside = {row[0], row[1]};
+        call->x = row[0];
+        call->y = row[1];
+        call->direction = row[2];
+        call->list[at[k % COUNT(at)]] = outside;
+    }
+    return k < COUNT(at) * COUNT(rows);
+}
+
+/* Equal neighbours, and pairs that fall: in x, in y, and in x + y nx where y + x ny rises. In the first four rows the fault is
+ * of the last pair alone, in the next two of the first. */
+static int orders(Call *call, size_t k) {
+    static const struct {
+        size_t count;
+        brothwagon_obstacle list[OBSTACLES];
+    } rows[] = {{6, {{0, 0}, {1, 0}, {2, 0}, {0, 1}, {1, 1}, {1, 1}}},
+                {6, {{0, 0}, {1, 0}, {2, 0}, {0, 1}, {2, 1}, {1, 1}}},
+                {4, {{0, 0}, {1, 0}, {1, 1}, {1, 0}}},
+                {3, {{0, 0}, {1, 1}, {2, 0}}},
+                {6, {{0, 0}, {0, 0}, {2, 0}, {0, 1}, {1, 1}, {2, 1}}},
+                {6, {{1, 0}, {0, 0}, {2, 0}, {0, 1}, {1, 1}, {2, 1}}},
+                {6, {{0, 0}, {1, 0}, {2, 0}, {2, 0}, {1, 1}, {2, 1}}},
+                {6, {{0, 0}, {0, 1}, {1, 0}, {1, 1}, {2, 0}, {2, 1}}},
+                {6, {{2, 1}, {1, 1}, {0, 1}, {2, 0}, {1, 0}, {0, 0}}},
+                {2, {{0, 0}, {0, 0}}},
+                {2, {{2, 1}, {2, 1}}},
+                {2, {{0, 1}, {2, 0}}}};
     if (k < COUNT(rows)) {
-        call->x = rows[k][0];
-        call->y = rows[k][1];
-        call->direction = rows[k][2];
+        set_list(call, rows[k].list, rows[k].count);
     }
     return k < COUNT(rows);
 }
@@ -180,11 +211,10 @@ typedef struct {
 } Fault;
 
 /* In the order in which the numbers are tested; and in that of a file that is read. */
-static const Fault FAULTS[] = {{1, "the sides", sides},         {2, "the lengths", lengths},
-                               {3, "the rates", rates},         {4, "the force", force},
-                               {5, "the faces", face_numbers},  {10, "the steps", steps},
-                               {6, "the place", places},        {7, "driven faces", driven_faces},
-                               {8, "lossy faces", lossy_faces}};
+static const Fault FAULTS[] = {
+    {1, "the sides", sides},           {2, "the lengths", lengths},    {3, "the rates", rates},  {4, "the force", force},
+    {5, "the faces", face_numbers},    {10, "the steps", steps},       {6, "the place", places}, {16, "the order", orders},
+    {7, "driven faces", driven_faces}, {8, "lossy faces", lossy_faces}};
 
 static const Fault FILE_FAULTS[] = {{12, "a file's first bytes", no_version},        {13, "its version", version},
                                     {14, "the bytes of its sides", sides_cut_short}, {1, "its sides", sides_of_file},
@@ -236,6 +266,29 @@ static void refused(const Operation *operation, const Fault *faults, const Fault
     }
 }
 
+/* One obstacle more, before the one that stands at a place of the list. */
+static void insert(Call *call, size_t at, brothwagon_obstacle obstacle) {
+    brothwagon_obstacle list[OBSTACLES];
+    for (size_t k = 0; k <= call->list_count; k++) {
+        list[k] = k < at ? call->list[k] : k == at ? obstacle : call->list[k - 1];
+    }
+    set_list(call, list, call->list_count + 1);
+}
+
+/* A fault of the order, if there are so many, with a place outside put in anywhere: the place is told, wherever both stand. */
+static int outside_and_falling(size_t order) {
+    static const brothwagon_obstacle outside[] = {{3, 0}, {0, 2}, {SIZE_MAX, 0}, {0, SIZE_MAX}};
+    Call falling = begin(3, 2, "fault %u of the order", (unsigned)order);
+    const int some = orders(&falling, order);
+    for (size_t k = 0; some && k < COUNT(outside) * (falling.list_count + 1); k++) {
+        Call call = begin(3, 2, "fault %u of the order, and place %u outside", (unsigned)order, (unsigned)k);
+        orders(&call, order);
+        insert(&call, k / COUNT(outside), outside[k % COUNT(outside)]);
+        check(&SET_NO_SLIP_BC, &call, 6);
+    }
+    return some;
+}
+
 static void refused_tolerance(void) {
     Call call = begin(3, 2, "tolerance NaN");
     call.tolerance = NAN;
@@ -257,6 +310,10 @@ void check_refusals(void) {
         } else {
             refused(ALL[at], FAULTS, FAULTS + COUNT(FAULTS));
         }
+    }
+    size_t order = 0;
+    while (outside_and_falling(order)) {
+        order++;
     }
     refused_tolerance();
     allowed_sides();

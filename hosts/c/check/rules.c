@@ -137,6 +137,12 @@ void stream(const brothwagon_settings *s, const double *post, double *f) {
     }
 }
 
+void throw_back(const brothwagon_settings *s, const double *before, double *f, size_t c) {
+    for (size_t i = 0; i < DIRECTIONS; i++) {
+        copy(&f[c + direction_of(-E[i][0], -E[i][1]) * cells_of(s)], &before[c + i * cells_of(s)]);
+    }
+}
+
 void step(const brothwagon_settings *s, double *f, double *post) {
     for (size_t c = 0; c < cells_of(s); c++) {
         collide(s, f, post, c);

@@ -25,6 +25,9 @@ double energy_of(const brothwagon_settings *s, const double *f);
 /* Streams post into f, then applies the faces x min, x max, y min, y max. */
 void stream(const brothwagon_settings *s, const double *post, double *f);
 
+/* An obstacle in cell c throws the populations of before back into f: each goes the opposite way. */
+void throw_back(const brothwagon_settings *s, const double *before, double *f, size_t c);
+
 /* Collides f into post, with Guo's source where there is a force, then streams post into f. */
 void step(const brothwagon_settings *s, double *f, double *post);
 

@@ -39,11 +39,24 @@ pub struct Settings {
 // The library reads the settings as 19 words.
 const _: () = assert!(size_of::<Settings>() == 19 * 8);
 
+/// A cell of the grid that an obstacle fills.
+#[repr(C)]
+#[derive(Clone, Copy, Debug, Default, PartialEq, Eq)]
+pub struct Obstacle {
+    /// The cell's column.
+    pub x: usize,
+    /// The cell's row.
+    pub y: usize,
+}
+
+// The library reads an obstacle as two words.
+const _: () = assert!(size_of::<Obstacle>() == 2 * 8);
+
 /// What a small answer array holds before the call, so that an answer that was not written shows.
 const UNWRITTEN: u64 = u64::MAX;
 
 mod c {
-    use super::Settings;
+    use super::{Obstacle, Settings};
 
     unsafe extern "C" {
         pub fn brothwagon_initialize(s: *const Settings, table: *const f64, tables: usize, f: *mut f64, fs: usize) -> u32;
@@ -70,6 +83,13 @@ mod c {
             u: *mut f64,
             us: usize,
             answer: *mut u64,
+        ) -> u32;
+        pub fn brothwagon_set_no_slip_bc(
+            s: *const Settings,
+            list: *const Obstacle,
+            obstacles: usize,
+            f: *mut f64,
+            fs: usize,
         ) -> u32;
         pub fn brothwagon_write_checkpoint(
             s: *const Settings,
@@ -187,6 +207,11 @@ pub fn run_to_steady_state(
         )
     };
     (number, answer)
+}
+
+/// Swaps the populations of each cell of the list, which ascends strictly by x + y·nx, with their opposites.
+pub fn set_no_slip_bc(s: &Settings, list: &[Obstacle], f: &mut [f64]) -> u32 {
+    unsafe { c::brothwagon_set_no_slip_bc(s, list.as_ptr(), list.len(), f.as_mut_ptr(), f.len()) }
 }
 
 /// Writes the checkpoint file of `f`, with that step number, into `file`.

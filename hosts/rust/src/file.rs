@@ -1,4 +1,5 @@
-use crate::{Collision, Face, MAGIC_BOUNCE_BACK, Refusal, Settings, Study};
+use crate::obstacles::{self, Block, OBSTACLE};
+use crate::{Collision, Face, MAGIC_BOUNCE_BACK, Obstacle, Refusal, Settings, Study};
 use std::error::Error;
 use std::fmt;
 
@@ -9,6 +10,8 @@ pub struct StudyFile {
     pub settings: Settings,
     /// The magic number that the settings' Trt rate was worked out from, if it was.
     pub magic: Option<f64>,
+    /// The cells that obstacles fill, ascending by x + y·nx; none if no grid has the sides.
+    pub obstacles: Vec<Obstacle>,
     /// What the populations start from.
     pub start: Start,
     /// Steps of a run, and the most of a steady run.
@@ -47,6 +50,8 @@ impl fmt::Display for Wrong {
 
 impl Error for Wrong {}
 
+const NAMES: &str = "sides, viscosity, force, collision, x-min, x-max, y-min, y-max, obstacle, start, steps or steady";
+
 const FACE: &str = "periodic, no-slip, moving-wall UX UY, symmetry, velocity UX UY or pressure DENSITY";
 
 /// A Trt rate may be given by a magic number, which asks for the viscosity, on whatever line it stands.
@@ -66,6 +71,7 @@ struct Draft {
     x_max: Option<Face>,
     y_min: Option<Face>,
     y_max: Option<Face>,
+    blocks: Vec<Block>,
     start: Option<Start>,
     steps: Option<u64>,
     steady: Option<(f64, u64)>,
@@ -75,14 +81,12 @@ impl StudyFile {
     /// Reads the text of a study file.
     pub fn read(text: &str) -> Result<StudyFile, Wrong> {
         let mut draft = Draft::default();
-        for (above, line) in text.lines().enumerate() {
-            let said = line.split('#').next().unwrap_or_default();
-            let words: Vec<&str> = said.split_whitespace().collect();
-            if let [name, values @ ..] = &words[..] {
-                draft.take(name, values).map_err(|expected| Wrong { line: above + 1, expected, found: quoted(&words) })?;
-            }
+        // A line is wrong by itself or, as an obstacle, by the sides, which may stand below it.
+        let (taken, obstacles) = (draft.take_lines(text), draft.obstacles());
+        if let Some((line, expected)) = taken.err().into_iter().chain(obstacles.clone().err()).min() {
+            return Err(Wrong { line, expected, found: found(text, line) });
         }
-        draft.finish().map_err(|missing| Wrong {
+        draft.finish(obstacles.unwrap_or_default()).map_err(|missing| Wrong {
             line: text.lines().count() + 1,
             expected: format!("a line `{missing}`"),
             found: "the end".to_string(),
@@ -97,16 +101,31 @@ impl StudyFile {
     }
 }
 
-/// The words of a line, to be shown: on one line, and not too many.
-fn quoted(words: &[&str]) -> String {
+/// The words of a line, without its comment.
+fn words(line: &str) -> Vec<&str> {
+    line.split('#').next().unwrap_or_default().split_whitespace().collect()
+}
+
+/// The words of a text's line, to be shown: on one line, and not too many.
+fn found(text: &str, line: usize) -> String {
     const MOST: usize = 60;
-    let said = words.join(" ");
+    let said = words(text.lines().nth(line - 1).unwrap_or_default()).join(" ");
     let shown: String = said.chars().take(MOST).flat_map(char::escape_debug).collect();
     if said.chars().nth(MOST).is_some() { format!("`{shown}`..") } else { format!("`{shown}`") }
 }
 
 impl Draft {
-    fn take(&mut self, name: &str, values: &[&str]) -> Result<(), String> {
+    /// Takes the lines of a text, up to one that is not as expected: which one that is, and what was.
+    fn take_lines(&mut self, text: &str) -> Result<(), (usize, String)> {
+        for (line, said) in (1..).zip(text.lines()) {
+            if let [name, values @ ..] = &words(said)[..] {
+                self.take(line, name, values).map_err(|expected| (line, expected))?;
+            }
+        }
+        Ok(())
+    }
+
+    fn take(&mut self, line: usize, name: &str, values: &[&str]) -> Result<(), String> {
         match name {
             "sides" => once(&mut self.sides, pair(values, whole), name, "sides NX NY, two whole numbers"),
             "viscosity" => once(&mut self.viscosity, single(values, number), name, "viscosity NUMBER"),
@@ -118,15 +137,24 @@ impl Draft {
             "x-max" => once(&mut self.x_max, face(values), name, &format!("x-max {FACE}")),
             "y-min" => once(&mut self.y_min, face(values), name, &format!("y-min {FACE}")),
             "y-max" => once(&mut self.y_max, face(values), name, &format!("y-max {FACE}")),
+            "obstacle" => {
+                self.blocks.push(Block::read(line, values).ok_or(OBSTACLE)?);
+                Ok(())
+            }
             "start" => once(&mut self.start, start(values), name, "start uniform DENSITY UX UY or start shear DENSITY UX UY"),
             "steps" => once(&mut self.steps, single(values, whole), name, "steps NUMBER, a whole one below 2^64"),
             "steady" => once(&mut self.steady, steady(values), name, "steady TOLERANCE CHECK_EVERY, the latter whole"),
-            _ => Err("sides, viscosity, force, collision, x-min, x-max, y-min, y-max, start, steps or steady".to_string()),
+            _ => Err(NAMES.to_string()),
         }
     }
 
+    /// The cells of the obstacles, none if there are no sides to hold them to; or what is wrong, as with lines.
+    fn obstacles(&self) -> Result<Vec<Obstacle>, (usize, String)> {
+        self.sides.map_or(Ok(Vec::new()), |(nx, ny)| obstacles::cells(&self.blocks, nx, ny))
+    }
+
     /// The study, with what it left out as in the solver's source: no force, Trt with 3/16, periodic, at rest.
-    fn finish(self) -> Result<StudyFile, &'static str> {
+    fn finish(self, obstacles: Vec<Obstacle>) -> Result<StudyFile, &'static str> {
         let (nx, ny) = self.sides.ok_or("sides NX NY")?;
         let nu = self.viscosity.ok_or("viscosity NUMBER")?;
         let (fx, fy) = self.force.unwrap_or((0.0, 0.0));
@@ -149,6 +177,7 @@ impl Draft {
                 y_max: self.y_max.unwrap_or_default(),
             },
             magic,
+            obstacles,
             start: self.start.unwrap_or(Start::Uniform(1.0, 0.0, 0.0)),
             steps: self.steps.ok_or("steps NUMBER")?,
             tolerance,
@@ -291,7 +320,8 @@ mod tests {
         assert_eq!(wrong(&format!("{SHORT}\nsides 1 1")), "line 5: expected no second line `sides`, found `sides 1 1`");
         assert_eq!(wrong("# a comment\nsides 3"), "line 2: expected sides NX NY, two whole numbers, found `sides 3`");
         assert_eq!(wrong("y-max moving-wall 0.1"), format!("line 1: expected y-max {FACE}, found `y-max moving-wall 0.1`"));
-        assert!(wrong("faces periodic").ends_with("or steady, found `faces periodic`"));
+        let names = "sides, viscosity, force, collision, x-min, x-max, y-min, y-max, obstacle, start, steps or steady";
+        assert_eq!(wrong("faces periodic"), format!("line 1: expected {names}, found `faces periodic`"));
         assert_eq!(wrong("sides 3 2\nsteps 5"), "line 3: expected a line `viscosity NUMBER`, found the end");
         assert!(wrong("\u{feff}sides 3 2").ends_with(r"found `\u{feff}sides 3 2`"));
         assert!(wrong(&"steps".repeat(1000)).ends_with(&format!("`{}`..", "steps".repeat(12))));

@@ -45,11 +45,13 @@ mod file;
 mod fingerprint;
 #[allow(unsafe_code)]
 mod level;
+mod obstacles;
 mod refusal;
 mod settings;
 mod study;
 
 pub use checkpoint::Checkpoint;
+pub use ffi::Obstacle;
 pub use file::{Start, StudyFile, Wrong};
 pub use fingerprint::fingerprint;
 pub use level::level;

@@ -14,7 +14,7 @@ pub enum Refusal {
     Force,
     /// 5: a face carries a number that it cannot have.
     Face,
-    /// 6: x, y or direction outside.
+    /// 6: x, y or direction outside, or the place of any obstacle of a list.
     Place,
     /// 7: the lossless question or the reverse meets a face that does more than copy.
     NotCopying,
@@ -35,12 +35,14 @@ pub enum Refusal {
     FileSides,
     /// 15: a file's count, or its actual length, is wrong.
     FileLength,
+    /// 16: a list of obstacles does not ascend strictly by x + y·nx.
+    Order,
     /// A number that this crate does not know, of a library that it was not written for.
     Unknown(u32),
 }
 
 /// Every refusal with a meaning, in the order of the numbers.
-const ALL: [Refusal; 14] = [
+const ALL: [Refusal; 15] = [
     Refusal::Sides,
     Refusal::Length,
     Refusal::Rate,
@@ -55,6 +57,7 @@ const ALL: [Refusal; 14] = [
     Refusal::FileVersion,
     Refusal::FileSides,
     Refusal::FileLength,
+    Refusal::Order,
 ];
 
 impl Refusal {
@@ -83,7 +86,7 @@ impl Refusal {
             Refusal::Face => {
                 (5, "a face number is not finite, a Pressure density is not above 0, or a Velocity face has 1 - un equal to 0")
             }
-            Refusal::Place => (6, "x, y or direction outside"),
+            Refusal::Place => (6, "x, y or direction outside, or the place of any obstacle of a list"),
             Refusal::NotCopying => (7, "the lossless question or the reverse meets MovingWall, Velocity or Pressure"),
             Refusal::Lossy => (8, "reverse on faces that are not lossless"),
             Refusal::BadSnapshot { .. } => (9, "a snapshot has a density or a velocity component that is not finite"),
@@ -92,6 +95,7 @@ impl Refusal {
             Refusal::FileVersion => (13, "the file's version is not 1"),
             Refusal::FileSides => (14, "the file is cut short before the end of its sides"),
             Refusal::FileLength => (15, "the file's count, or its actual length, is wrong"),
+            Refusal::Order => (16, "the list of obstacles does not ascend strictly by x + y·nx"),
             Refusal::Unknown(number) => {
                 (number, "a number that this crate does not know; the library is not the one it was written for")
             }
@@ -118,13 +122,13 @@ mod tests {
 
     #[test]
     fn each_number_has_its_refusal() {
-        let numbers: Vec<u32> = (1..=10).chain(12..=15).collect();
+        let numbers: Vec<u32> = (1..=10).chain(12..=16).collect();
         assert_eq!(ALL.map(Refusal::number)[..], numbers);
         for refusal in ALL {
             assert_eq!(Refusal::of(refusal.number()), Err(refusal));
         }
         assert_eq!(Refusal::of(0), Ok(()));
-        assert_eq!(Refusal::of(16), Err(Refusal::Unknown(16)));
+        assert_eq!(Refusal::of(17), Err(Refusal::Unknown(17)));
         assert_eq!(Refusal::of(u32::MAX).unwrap_err().number(), u32::MAX);
     }
 }

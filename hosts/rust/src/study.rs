@@ -1,4 +1,4 @@
-use crate::{Checkpoint, Refusal, Settings, checkpoint, ffi};
+use crate::{Checkpoint, Obstacle, Refusal, Settings, checkpoint, ffi};
 use std::error::Error;
 use std::fmt;
 
@@ -79,12 +79,17 @@ impl fmt::Display for OtherSides {
 
 impl Error for OtherSides {}
 
+/// Whether a grid can have these sides. The library alone knows their limits: an empty buffer has the wrong length on every
+/// grid, so this is refused with 2 where the sides are good, and with 1 where they are not.
+pub(crate) fn are_sides(nx: usize, ny: usize) -> bool {
+    let sides = ffi::Settings { nx: nx as u64, ny: ny as u64, ..ffi::Settings::default() };
+    ffi::total_mass(&sides, &[]).0 != Refusal::Sides.number()
+}
+
 impl Study {
     /// A study with its buffers; refused where the sides are.
     pub fn new(settings: Settings) -> Result<Study, Refusal> {
-        // The library alone knows the limits of the sides: an empty buffer has the wrong length on every grid, so this is
-        // refused with 2 where the sides are good, and with 1 where they are not.
-        if let (1, _) = ffi::total_mass(&(&settings).into(), &[]) {
+        if !are_sides(settings.nx, settings.ny) {
             return Err(Refusal::Sides);
         }
         let cells = settings.nx * settings.ny;
@@ -243,6 +248,33 @@ impl Study {
     /// So many steps.
     pub fn run(&mut self, steps: u64) -> Result<(), Refusal> {
         Refusal::of(ffi::run(&self.words(), steps, &mut self.f, &mut self.post))
+    }
+
+    /// Swaps the populations of each cell of the list, which ascends strictly by x + y·nx, with their opposites: a wall in those
+    /// cells throws them back. A second call with the same list undoes the first.
+    pub fn set_no_slip_bc(&mut self, list: &[Obstacle]) -> Result<(), Refusal> {
+        Refusal::of(ffi::set_no_slip_bc(&self.words(), list, &mut self.f))
+    }
+
+    /// Asks whether [`Study::run_past`] would be refused with this list, and changes nothing: two calls, the second of which undoes
+    /// the first.
+    pub fn ask_past(&mut self, list: &[Obstacle]) -> Result<(), Refusal> {
+        self.run(0)?;
+        self.set_no_slip_bc(list)?;
+        self.set_no_slip_bc(list)
+    }
+
+    /// So many steps, with [`Study::set_no_slip_bc`] after each; without obstacles, as [`Study::run`] takes them. A list that is
+    /// refused is told after the first step: [`Study::ask_past`] tells it before.
+    pub fn run_past(&mut self, list: &[Obstacle], steps: u64) -> Result<(), Refusal> {
+        if list.is_empty() {
+            return self.run(steps);
+        }
+        for _ in 0..steps {
+            self.step()?;
+            self.set_no_slip_bc(list)?;
+        }
+        Ok(())
     }
 
     /// Steps until the velocities change by less than the tolerance from one check to the next, relative to the highest.

@@ -9,7 +9,12 @@ use std::process::Command;
 // `compare/run --studies` prints these fingerprints, from the solver's source.
 #[test]
 fn each_study_ends_in_the_state_that_the_solvers_source_gives() {
-    let fingerprints = [("cavity", "924747a01440ed05"), ("channel", "abacbad02f25b937"), ("shear", "d6f16322b12c8a1c")];
+    let fingerprints = [
+        ("cavity", "924747a01440ed05"),
+        ("channel", "abacbad02f25b937"),
+        ("shear", "d6f16322b12c8a1c"),
+        ("post", "dc9bf8793b570956"),
+    ];
     for (study, fingerprint) in fingerprints {
         let said = out(&format!("run STUDIES/{study}.study --steps 20"));
         assert_eq!(value(&said, "fingerprint"), fingerprint, "{study}");

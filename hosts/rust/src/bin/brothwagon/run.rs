@@ -7,21 +7,23 @@ use crate::options::Options;
 use crate::progress::Progress;
 use crate::saves::Saves;
 use crate::start::Start;
-use brothwagon::Study;
 use std::io::Write;
 use std::time::{Duration, Instant};
 
 pub fn run(options: &Options, mut start: Start, out: &mut impl Write) -> Result<(), Failure> {
     let steps = options.steps.unwrap_or(start.file.steps);
     // The library is asked even if there is no step to take: it may refuse the settings.
-    start.study.run(0)?;
+    start.study.ask_past(&start.file.obstacles)?;
     let saves = Saves::of(options);
     saves.prepare(start.step(), steps)?;
     let first = u64::from(start.step());
-    let running = walk(&mut start.study, first, steps, &saves)?;
+    let running = walk(&mut start, steps, &saves)?;
 
     judged(&start.study, first + steps, || {
         title(out, &options.study, &start.study)?;
+        if !start.file.obstacles.is_empty() {
+            line(out, "obstacle cells", start.file.obstacles.len())?;
+        }
         line(out, "steps", steps)?;
         start.answer(out, steps)?;
         // A run of no steps takes no time.
@@ -32,7 +34,8 @@ pub fn run(options: &Options, mut start: Start, out: &mut impl Write) -> Result<
 }
 
 /// Takes the steps, says how far it is, and saves what is to be saved: how long the steps alone took.
-fn walk(study: &mut Study, first: u64, steps: u64, saves: &Saves) -> Result<Duration, Failure> {
+fn walk(start: &mut Start, steps: u64, saves: &Saves) -> Result<Duration, Failure> {
+    let first = u64::from(start.step());
     let mut progress = Progress::of(steps);
     let mut running = Duration::ZERO;
     let mut done = 0;
@@ -40,11 +43,11 @@ fn walk(study: &mut Study, first: u64, steps: u64, saves: &Saves) -> Result<Dura
     while done < steps {
         let stretch = progress.next(done).min(saves.ahead(first + done).unwrap_or(u64::MAX));
         let began = Instant::now();
-        study.run(stretch)?;
+        start.study.run_past(&start.file.obstacles, stretch)?;
         running += began.elapsed();
         done += stretch;
-        saves.along(study, first + done, &progress)?;
+        saves.along(&start.study, first + done, &progress)?;
     }
-    saves.end(study, first + steps, &progress)?;
+    saves.end(&start.study, first + steps, &progress)?;
     Ok(running)
 }

@@ -13,6 +13,11 @@ use std::time::Instant;
 
 pub fn steady(options: &Options, mut start: Start, out: &mut impl Write) -> Result<(), Failure> {
     let file = &start.file;
+    // Their call comes after each step, and the library takes all steps of a steady run by itself.
+    if !file.obstacles.is_empty() {
+        let why = "a steady run knows no obstacles, and this study has some; `run` takes its steps past them";
+        return Err(Failure::Refused(why.to_string()));
+    }
     let saves = Saves::of(options);
     saves.prepare(start.step(), file.steps)?;
     let began = Instant::now();

@@ -1,0 +1,10 @@
+pub mod Numbers
+pub mod Ascent
+pub mod Cell
+pub mod Bounced
+pub mod Runs
+pub mod Testing
+pub mod Writing
+pub mod Outcome
+pub mod Twice
+pub mod One
