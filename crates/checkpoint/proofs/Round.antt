@@ -6,8 +6,8 @@ use Prim.Native.Nat.{ℕ, _+_, _*_, _^_, _≤_, _<_}
 use native.Mathlib.Omega.{arith}
 use borrow.Author.Tests.{eq-eqb, le-ltb}
 use lib.ListN.{length}
-use Rattle.words.specs.Words.{big, Laid}
-use Rattle.words.proofs.Words.{Bytes, numbers-length}
+use Rattle.words.specs.Words.{big, partAt, Laid}
+use Rattle.words.proofs.Words.{Bytes, numbers-length, part-of}
 use Rattle.words.proofs.Laid.{number-stands, numbers-stand}
 use Rattle.settings.specs.declared.Head.{Head}
 use Rattle.settings.specs.declared.Settings.{Settings}
@@ -18,8 +18,8 @@ use Rattle.settings.specs.Outcome.{answer, Written}
 use Rattle.settings.proofs.Laws.{known, none, sides-ok}
 use Rattle.settings.proofs.Outcome.{answered}
 use Rattle.checkpoint.specs.declared.Stored.{Stored}
-use Rattle.checkpoint.specs.Checkpoint.{countOf, checkpointOf, partAt, headOf, entriesOf, Read, read, checkpointWritten, checkpointSides, checkpointRead}
-use Rattle.checkpoint.proofs.Files.{Patterns, heading, part-of, head-laid, file-laid, head-of-file, entries-of-file}
+use Rattle.checkpoint.specs.Checkpoint.{countOf, checkpointOf, headOf, entriesOf, Read, read, checkpointWritten, checkpointSides, checkpointRead}
+use Rattle.checkpoint.proofs.Files.{Patterns, heading, head-laid, file-laid, head-of-file, entries-of-file}
 
 abbrev stored : ℕ → ℕ → ℕ → Stored
 stored nx ny step = record { number = 0; nx = nx; ny = ny; step = step }
@@ -116,7 +116,7 @@ stops false false false false false later = refl
 pub question-first : (h : Head) (len : ℕ) → let asked = refusal (Call.checkpointSides h) in
     refusal (Call.readCheckpoint h len) ≡ answer asked (cond (lengthBad (h .nx) (h .ny) 9 len) 2 0) asked
 question-first h len =
-    stops (shortBad h) (versionBad h) (cutBad h) (sidesBad (h .nx) (h .ny)) (countBad h) (cond (lengthBad (h .nx) (h .ny) 9 len) 2 0)
+    stops (shortBad (h .length)) (versionBad (h .version)) (cutBad h) (sidesBad (h .nx) (h .ny)) (countBad h) (cond (lengthBad (h .nx) (h .ny) 9 len) 2 0)
 
 -- so what the question tells is enough to lend a buffer: the file is read, with the same sides and step
 pub asked-then-read : (file lent : List ℕ) → refusal (Call.checkpointSides (headOf file)) ≡ 0
