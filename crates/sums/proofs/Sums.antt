@@ -1,14 +1,14 @@
 -- Sums of finitely many numbers, once: by parts, term by term, in another order, and with one term changed.
 use mathlib.Core.Path.{_≡_, refl, sym, ap, ap₂, _∙_}
 use mathlib.Core.Bool.{cond}
-use Prim.Native.Nat.{ℕ, zero, suc, _+_, _-_, _%_, _^_, _<_}
-use native.Mathlib.Nat.{zero-add, add-zero, add-suc, mod-add-mod, add-mod-mod, add-mod-right}
+use Prim.Native.Nat.{ℕ, zero, suc, _+_, _-_, _*_, _/_, _%_, _^_, _<_}
+use native.Mathlib.Nat.{zero-add, add-zero, add-suc, add-comm, zero-mul, mod-add-mod, add-mod-mod, add-mod-right, mod-add-div', add-mul-mod-self-right}
 use native.Mathlib.Decide.{ℕ-discrete}
 use native.Mathlib.Numerals.{add-one}
 use native.Mathlib.Omega.{arith}
 use lib.Dec.{eqb}
 use borrow.Author.Tests.{eq-eqb, ne-eqb}
-use Rattle.sums.specs.Sums.{sum, wrapped, movedBy}
+use Rattle.sums.specs.Sums.{sum, wrapped, less, movedBy}
 
 -- ---- term by term
 
@@ -33,6 +33,16 @@ pub sum-join : (n m : ℕ) (g : ℕ → ℕ) → sum (n + m) g ≡ sum n g + sum
 unfolding sum
 sum-join n zero g = rw (add-zero n) (omega arith)
 sum-join n (suc m) g = rw (add-suc n m) (omega (arith, sum-join n m g))
+
+-- the sum of m stretches of n is the sum of all
+pub stretches : (m n : ℕ) (g : ℕ → ℕ) → sum (m * n) g ≡ sum m (λ i. sum n (λ c. g (c + i * n)))
+unfolding sum
+stretches zero n g = ap (λ (k : ℕ). sum k g) (zero-mul n)
+stretches (suc m) n g =
+    let p : suc m * n ≡ m * n + n = omega arith in
+    ap (λ (k : ℕ). sum k g) p
+    ∙ sum-join (m * n) n g
+    ∙ ap₂ (λ (a b : ℕ). a + b) (stretches m n g) (sum-cong n _ _ (λ k h. ap g (add-comm (m * n) k)))
 
 -- ---- in another order
 
@@ -97,11 +107,32 @@ sum-changed (suc n) j g h l e = go (λ b. sum-changed n j g h b e) (ℕ-discrete
 
 -- ---- wrapping
 
+-- wrapping each term changes no wrapped sum
+pub wrap-terms : (n : ℕ) (g : ℕ → ℕ) → wrapped (sum n (λ k. wrapped (g k))) ≡ wrapped (sum n g)
+unfolding sum
+wrap-terms zero g = refl
+wrap-terms (suc n) g =
+    add-mod-mod (sum n (λ k. wrapped (g k))) (g n) (2 ^ 64)
+    ∙ sym (mod-add-mod (sum n (λ k. wrapped (g k))) (2 ^ 64) (g n))
+    ∙ ap (λ (a : ℕ). wrapped (a + g n)) (wrap-terms n g)
+    ∙ mod-add-mod (sum n g) (2 ^ 64) (g n)
+
+-- a wrapped number moved is that number moved
+pub moved-wrapped : (a old new : ℕ) → movedBy old new (wrapped a) ≡ wrapped (a + less new old)
+moved-wrapped a old new = mod-add-mod a (2 ^ 64) (less new old)
+
 -- a wrapped sum moved by the new term less the old is the wrapped sum with the term changed
 pub moved-sum : (a b old new : ℕ) → old < 2 ^ 64 → b + old ≡ a + new → movedBy old new (wrapped a) ≡ wrapped b
 moved-sum a b old new h e =
     let p : a + (new + (2 ^ 64 - old)) ≡ b + 2 ^ 64 = omega arith in
-    mod-add-mod a (2 ^ 64) _ ∙ add-mod-mod a (new + (2 ^ 64 - old)) (2 ^ 64) ∙ ap wrapped p ∙ add-mod-right b (2 ^ 64)
+    moved-wrapped a old new ∙ add-mod-mod a (new + (2 ^ 64 - old)) (2 ^ 64) ∙ ap wrapped p ∙ add-mod-right b (2 ^ 64)
+
+-- where b and c differ as a + d, wrapped, and a do
+pub same-wrapped : (b c a d : ℕ) → b + a ≡ c + wrapped (a + d) → wrapped b ≡ wrapped (c + d)
+same-wrapped b c a d e =
+    let q = (a + d) / 2 ^ 64 in
+    let p : b + q * 2 ^ 64 ≡ c + d = omega (arith, e, mod-add-div' (a + d) (2 ^ 64)) in
+    sym (add-mul-mod-self-right b q (2 ^ 64)) ∙ ap wrapped p
 
 -- one term more, by the code `s = wrapping_add(s, v)`
 pub wrap-more : (g : ℕ → ℕ) (k s r : ℕ) → s ≡ wrapped (sum k g) → r ≡ (s + g k) % 2 ^ 64 → r ≡ wrapped (sum (k + 1) g)

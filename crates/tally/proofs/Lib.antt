@@ -1,0 +1,7 @@
+pub mod Tallies
+pub mod Planes
+pub mod Files
+pub mod Round
+pub mod Entries
+pub mod Kept
+pub mod One
