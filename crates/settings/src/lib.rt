@@ -331,8 +331,9 @@ fn file(h: Head, later: u32) -> u32
 fn numbers(t: &[u64; 10], size: usize, len: usize) -> u32
     ensures { λ r. ⌜ r ≡ first (Refusals.sums (now (t .entry)) ∷ Refusals.sized size len ∷ []) 0 ⌝ }
 {
-    let later = number_if(len != size, 2, 0);
-    number_if(sums_bad(t), 17, later)
+    let unlike = len != size;
+    let unwrapped = sums_bad(t);
+    number_if(unwrapped, 17, number_if(unlike, 2, 0))
 }
 
 // ---- what each operation refuses, over the lengths of its lent buffers

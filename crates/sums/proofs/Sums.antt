@@ -127,6 +127,19 @@ moved-sum a b old new h e =
     let p : a + (new + (2 ^ 64 - old)) ≡ b + 2 ^ 64 = omega arith in
     moved-wrapped a old new ∙ add-mod-mod a (new + (2 ^ 64 - old)) (2 ^ 64) ∙ ap wrapped p ∙ add-mod-right b (2 ^ 64)
 
+-- what is added twice 2 ^ 64 short of wrapping back, and not 0, is 2 ^ 64
+once-round : (a d r p q : ℕ) → r + p * 2 ^ 64 ≡ a → r + q * 2 ^ 64 ≡ a + d → 0 < d → d < 2 ^ 65 → d ≡ 2 ^ 64
+once-round a d r p q before after some few = omega (arith, before, after)
+
+-- and where that moves nothing, the terms are one
+pub moved-none : (a old new : ℕ) → old < 2 ^ 64 → new < 2 ^ 64 → movedBy old new (wrapped a) ≡ wrapped a → old ≡ new
+moved-none a old new ho hn e =
+    let d = new + (2 ^ 64 - old) in
+    let same : wrapped (a + d) ≡ wrapped a = sym (add-mod-mod a d (2 ^ 64)) ∙ sym (moved-wrapped a old new) ∙ e in
+    let r = once-round a d (wrapped a) (a / 2 ^ 64) ((a + d) / 2 ^ 64) (mod-add-div' a (2 ^ 64))
+    (ap (λ (w : ℕ). w + (a + d) / 2 ^ 64 * 2 ^ 64) (sym same) ∙ mod-add-div' (a + d) (2 ^ 64)) (omega arith) (omega arith) in
+    omega (arith, r)
+
 -- where b and c differ as a + d, wrapped, and a do
 pub same-wrapped : (b c a d : ℕ) → b + a ≡ c + wrapped (a + d) → wrapped b ≡ wrapped (c + d)
 same-wrapped b c a d e =

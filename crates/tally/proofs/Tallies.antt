@@ -128,11 +128,11 @@ module _ (nx ny x y i v : ℕ) (f : List ℕ) (b : Buffer nx ny f) (hx : x < nx)
       ∙ sum-changed m j (λ k. getD after (g k) 0) (λ k. getD f (g k) 0) h (λ k d. else-where (g k) (apart k d))
       ∙ ap (λ (a : ℕ). sum m (λ k. getD f (g k) 0) + a) is)
 
-  total-moved : movedBy old v (total n f) ≡ total n after
+  pub total-moved : movedBy old v (total n f) ≡ total n after
   unfolding total
   total-moved = sum-moved (9 * n) place (λ k. k) in-buffer refl (λ k d. d)
 
-  plane-moved : movedBy old v (plane n f i) ≡ plane n after i
+  pub plane-moved : movedBy old v (plane n f i) ≡ plane n after i
   unfolding plane
   plane-moved = sum-moved n (x + y * nx) (λ c. c + i * n) (within x y nx ny hx hy) refl (λ c d p. d (omega arith))
 

@@ -6,7 +6,7 @@ use Rattle.settings.proofs.numbers.Tie as tie
 
 returns : tie.Need-returns
 unfolding sizeBad
-returns c = rw (c .number-if2 .ensures, c .before .sums-bad .ensures, c .before .before .number-if .ensures)
+returns c = rw (c .number-if2 .ensures, c .before .number-if .ensures, c .before .before .sums-bad .ensures)
 
 pub numbers-spec : {M : Type 1} → statement M
 numbers-spec = tie.close (tie.spec (λ c κs. search needs) (λ c κs. search needs) (λ c κs. search needs) returns)

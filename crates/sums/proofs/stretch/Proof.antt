@@ -19,17 +19,17 @@ loop-holds : tie.Need-loop-holds Inv-loop μ-loop
 unfolding sum
 loop-holds c = (omega arith, refl)
 
-add-wrapping-add-u64 : tie.Need-add-wrapping-add-u64 Inv-loop μ-loop
-add-wrapping-add-u64 c = omega arith
+add-plus : tie.Need-add-plus Inv-loop μ-loop
+add-plus c = omega arith
 
-mul-wrapping-add-u64 : tie.Need-mul-wrapping-add-u64 Inv-loop μ-loop
-mul-wrapping-add-u64 c = omega arith
+mul-plus : tie.Need-mul-plus Inv-loop μ-loop
+mul-plus c = omega arith
 
-shared-slice-read-wrapping-add-u64 : tie.Need-shared-slice-read-wrapping-add-u64 Inv-loop μ-loop
-shared-slice-read-wrapping-add-u64 c = omega arith
+shared-slice-read-plus : tie.Need-shared-slice-read-plus Inv-loop μ-loop
+shared-slice-read-plus c = omega arith
 
-wrapping-add-u64-requires : tie.Need-wrapping-add-u64-requires Inv-loop μ-loop
-wrapping-add-u64-requires c κs = search needs
+plus-requires : tie.Need-plus-requires Inv-loop μ-loop
+plus-requires c κs = search needs
 
 add-k : tie.Need-add-k Inv-loop μ-loop
 add-k c = omega arith
@@ -41,7 +41,7 @@ loop-again : tie.Need-loop-again Inv-loop μ-loop
 loop-again c =
     let a = c .before .before .before .before .before .args in
     let l = c .before .before .before .loop in
-    (omega arith, wrap-more (λ j. getD (a .f .now) (j + a .from) 0) (l .k) (l .s) _ (l .inv .1) (c .wrapping-add-u64 .ensures))
+    (omega arith, wrap-more (λ j. getD (a .f .now) (j + a .from) 0) (l .k) (l .s) _ (l .inv .1) (c .plus .ensures))
 
 returns : tie.Need-returns Inv-loop μ-loop
 returns c =
@@ -57,10 +57,10 @@ stretch-spec =
     Inv-loop
     μ-loop
     loop-holds
-    add-wrapping-add-u64
-    mul-wrapping-add-u64
-    shared-slice-read-wrapping-add-u64
-    wrapping-add-u64-requires
+    add-plus
+    mul-plus
+    shared-slice-read-plus
+    plus-requires
     add-k
     loop-less
     loop-again
