@@ -206,6 +206,7 @@ Call begin(uint64_t nx, uint64_t ny, const char *format, ...) {
         fill(wanted[which], which, MOST);
     }
     call.file_at = 1;
+    call.pattern = 1;
     fill_grid(&call);
     memset(wanted_answer, 0, sizeof wanted_answer);
     return call;

@@ -54,7 +54,7 @@ uint64_t pattern(double number);
 
 /* Begins a case, named as by printf: buffers of canaries, expected to stay; an answer of zeros; and a call on a grid of this
  * size with buffers of the right lengths, that of a file a checkpoint's, Bgk with tau 2, no force, periodic faces, a file at an
- * odd address, an obstacle in every cell, and zeros. */
+ * odd address, an obstacle in every cell, the pattern 1 to write, and zeros. */
 Call begin(uint64_t nx, uint64_t ny, const char *format, ...);
 
 /* Makes this list that of the call. Behind it stand places outside whose x + y nx wraps to 0, so that a look at one shows. */

@@ -21,7 +21,7 @@ static int sides(Call *call, size_t k) {
 /* Of one buffer at a time; that of one that is not lent is no fault. */
 static int lengths(Call *call, size_t k) {
     size_t *length = &call->length[k % BUFFERS];
-    const size_t rows[] = {*length - 1, *length + 1, 0};
+    const size_t rows[] = {*length - 1, *length + 1, 0, *length + ((size_t)1 << 32)};
     if (k < BUFFERS * COUNT(rows)) {
         *length = rows[k / BUFFERS];
     }
@@ -219,21 +219,23 @@ static int tally_count_or_length(Call *call, size_t k) {
     return k < COUNT(rows);
 }
 
-/* A tally for the writer, and another in a file for the reader; one number of both is off by so much. */
-static void lend_tallies(const Call *call, size_t number, uint64_t by) {
+/* A tally for the writer, and another one's numbers in a file for the reader; one number of both is off by so much. */
+static void hold_tallies(const Call *call, size_t number, uint64_t by) {
     uint64_t lent[TALLY_NUMBERS], stored[TALLY_NUMBERS];
     tally_of(&call->settings, given[F], lent);
     tally_of(&call->settings, given[POST], stored);
     lent[number] += by;
     stored[number] += by;
     hold_patterns(SUMS, lent, TALLY_NUMBERS);
-    hold_tally_file(call, stored);
+    for (size_t k = 0; k < TALLY_NUMBERS; k++) {
+        hold_bytes(call, 5 + 8 * k, 8, stored[k]);
+    }
 }
 
 static int sums(Call *call, size_t k) {
     const uint64_t rows[] = {1, UINT64_C(1) << 32, UINT64_C(1) << 63, UINT64_MAX};
     if (k < TALLY_NUMBERS * COUNT(rows)) {
-        lend_tallies(call, k % TALLY_NUMBERS, rows[k / TALLY_NUMBERS]);
+        hold_tallies(call, k % TALLY_NUMBERS, rows[k / TALLY_NUMBERS]);
     }
     return k < TALLY_NUMBERS * COUNT(rows);
 }
@@ -264,13 +266,18 @@ static int is_fault(const Operation *operation, const Fault *fault, size_t k) {
     return tests_for(operation, fault->number) && (fault->number != 2 || operation->lent[k % BUFFERS]);
 }
 
-/* The file that a call reads, if it reads one; and the tally that a call writes. */
+/* The file that a call reads, if it reads one; and the tally that one writes. */
 static void lend_file(const Operation *operation, Call *call) {
+    if (tests_for(operation, 14)) {
+        hold_file(call);
+    }
     if (tests_for(operation, 17)) {
         call->length[BYTES] = TALLY_FILE;
-        lend_tallies(call, 0, 0);
-    } else if (tests_for(operation, 12)) {
-        hold_file(call);
+        hold_tallies(call, 0, 0);
+    }
+    if (operation == &READ_TALLY) {
+        hold_bytes(call, 0, 4, 81);
+        hold_bytes(call, 4, 1, 1);
     }
 }
 

@@ -81,17 +81,17 @@ static void tallies(const uint64_t grid[2]) {
     }
 }
 
-/* A number of the tally moves by what the written entry does. */
-static void move(size_t number, size_t entry) {
+/* A number of the tally moves by so much. */
+static void move(size_t number, uint64_t by) {
     uint64_t sum;
     memcpy(&sum, &given[SUMS][number], sizeof sum);
-    sum += pattern(wanted[F][entry]) - pattern(given[F][entry]);
+    sum += by;
     memcpy(&wanted[SUMS][number], &sum, sizeof sum);
 }
 
 /* One entry is written, with canaries for a tally, which are any ten numbers; then with the buffer's own, which becomes the one
  * worked out afresh. */
-static void write_entry(const uint64_t grid[2], size_t entry, uint64_t bits) {
+static void write_entry(const uint64_t grid[2], size_t entry, uint64_t was, uint64_t bits) {
     Call call = on(grid, "entry", entry);
     const size_t cells = cells_of(&call.settings);
     uint64_t tally[TALLY_NUMBERS];
@@ -99,9 +99,10 @@ static void write_entry(const uint64_t grid[2], size_t entry, uint64_t bits) {
     call.y = entry % cells / grid[0];
     call.direction = entry / cells;
     call.pattern = bits;
+    memcpy(&given[F][entry], &was, sizeof was);
     memcpy(&wanted[F][entry], &bits, sizeof bits);
-    move(0, entry);
-    move(1 + call.direction, entry);
+    move(0, bits - was);
+    move(1 + call.direction, bits - was);
     done(&WRITE_ENTRY, &call);
 
     tally_of(&call.settings, given[F], tally);
@@ -113,8 +114,8 @@ static void write_entry(const uint64_t grid[2], size_t entry, uint64_t bits) {
 
 static void write_entries(const uint64_t grid[2]) {
     for (size_t entry = 0; entry < DIRECTIONS * grid[0] * grid[1]; entry++) {
-        for (size_t k = 0; k < COUNT(PATTERNS); k++) {
-            write_entry(grid, entry, PATTERNS[k]);
+        for (size_t k = 0; k < COUNT(PATTERNS) * COUNT(PATTERNS); k++) {
+            write_entry(grid, entry, PATTERNS[k / COUNT(PATTERNS)], PATTERNS[k % COUNT(PATTERNS)]);
         }
     }
 }
