@@ -21,9 +21,9 @@
  *   17  the sums of a tally's nine planes do not wrap to its first number
  *
  * They are tested in the order 1, 2, 3, 4, 5, 10, 6, 16, 7, 8, and of a file that is read, or a tally that is written, in the
- * order 12, 13, 14, 1, 15, 17, 2; the first that applies is answered. Each function below lists the ones that it tests; no other
- * is answered. A refused call (any number but 0, and 9 apart) writes to no lent buffer, nor to a tally that it would change, and
- * leaves zeros in its small answer array, which every call writes.
+ * order 12, 13, 14, 1, 15, 17, 2; the first that applies is answered. Each function below lists the ones that it tests; no
+ * other is answered. A refused call (any number but 0, and 9 apart) writes to no lent buffer, nor to a tally that it would
+ * change, and leaves zeros in its small answer array, which every call writes.
  *
  * Buffers. Entry (x, y, i) of the populations f and of the post-collision buffer stands at x + y nx + i nx ny: each has
  * 9 nx ny entries. A velocity buffer has 2 nx ny, a cell's two components at 2 (x + y nx). An initial table has 3 nx ny, a
@@ -37,9 +37,9 @@
  *
  * A tally. Ten numbers, {all, plane 0, .., plane 8}: the sum of the 64-bit patterns of all entries of f, and that of each
  * direction's, wrapping at 64 bits; so the nine wrap to the first. Streaming with faces that are lossless keeps the first: the
- * next f has that of post. A tally does not cover the sides or the step number. Its file has 85 bytes, big-endian too: four that
- * count all that follow, 81; one, the version 1; then the ten numbers, eight bytes each. The checkpoint of one cell begins with
- * the same five bytes and is as long, so a file does not say which of the two it is.
+ * next f has that of post. A tally does not cover the sides or the step number. Its file has 85 bytes, and is big-endian too:
+ * four bytes that count all that follow, 81; one byte, the version 1; then the ten numbers, eight bytes each. The checkpoint of
+ * one cell begins with the same five bytes and is as long, so a file does not say which of the two it is.
  *
  * What the caller sees to. No pointer is NULL, not even beside a length of 0; each is to 8-byte aligned memory, but for a
  * file's, and nothing that is lent (settings and answers too) overlaps. The caller's floating-point mode is the usual one:

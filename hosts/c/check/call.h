@@ -53,7 +53,7 @@ extern uint64_t wanted_answer[ANSWERS];
 uint64_t pattern(double number);
 
 /* Begins a case, named as by printf: buffers of canaries, expected to stay; an answer of zeros; and a call on a grid of this
- * size with buffers of the right lengths, that of a file a checkpoint's, Bgk with tau 2, no force, periodic faces, a file at an
+ * size with buffers of the right lengths (a file's is a checkpoint's), Bgk with tau 2, no force, periodic faces, a file at an
  * odd address, an obstacle in every cell, the pattern 1 to write, and zeros. */
 Call begin(uint64_t nx, uint64_t ny, const char *format, ...);
 

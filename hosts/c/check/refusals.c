@@ -204,8 +204,8 @@ static int count_or_length(Call *call, size_t k) {
     return k < COUNT(rows);
 }
 
-/* Of a tally's file, which has 85 bytes, the first four a count of 81. In each row of the table: counts, lengths, lengths whose
- * low bits are right, and counts that fit the length. */
+/* Of a tally's file, which has 85 bytes, the first four a count of 81: other counts, other lengths, lengths whose low bits are
+ * right, and counts that fit the length. */
 static int tally_count_or_length(Call *call, size_t k) {
     const uint64_t rows[][2] = {
         {80, 85}, {82, 85}, {85, 85}, {0, 85}, {0x151, 85}, {0x10051, 85}, {0x1000051, 85}, {0x51000000, 85},

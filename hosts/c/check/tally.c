@@ -131,7 +131,8 @@ static void turned_bits(void) {
     }
 }
 
-/* A file with faults: by its length, its version, its count, its sums and the words that are lent, in the rules' order. */
+/* Length, version, count, sums and the words that are lent, each right or wrong: the first wrong one in the rules' order is
+ * told. */
 static void several_faults(size_t k) {
     const size_t lengths[] = {85, 4, 84, 86}, length = lengths[k % 4], words = 10 - k / 4 % 2;
     const uint64_t version = 1 + k / 8 % 2, count = 81 - k / 16 % 2, off = k / 32 % 2;
