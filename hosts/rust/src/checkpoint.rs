@@ -73,7 +73,14 @@ impl Checkpoint {
 
     /// Writes one entry, given as its pattern, and moves the tally along: the state's own becomes that of the new state, and another
     /// stays as far from it as it was.
-    pub fn write_entry(&mut self, x: usize, y: usize, direction: usize, pattern: u64, tally: &mut Tally) -> Result<(), Refusal> {
+    pub fn write_entry(
+        &mut self,
+        x: usize,
+        y: usize,
+        direction: usize,
+        pattern: u64,
+        tally: &mut Tally,
+    ) -> Result<(), Refusal> {
         Refusal::of(ffi::write_entry(&self.words(), x, y, direction, pattern, &mut self.f, &mut tally.0))
     }
 

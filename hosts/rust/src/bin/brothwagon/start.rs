@@ -3,6 +3,7 @@
 use crate::answer::line;
 use crate::failure::Failure;
 use crate::options::Options;
+use crate::pair::Pair;
 use crate::read;
 use brothwagon::{Checkpoint, OtherSides, Study, StudyFile};
 use std::io::{self, Write};
@@ -17,11 +18,11 @@ pub struct Start {
 
 impl Start {
     pub fn of(options: &Options) -> Result<Start, Failure> {
-        let file = read::study(&options.study)?;
+        let file = read::study(&options.study).map_err(|failure| failure.about(&options.study))?;
         let (study, from) = match &options.from {
             None => (file.started().map_err(Failure::from), None),
             Some(path) => {
-                let checkpoint = read::checkpoint(path)?;
+                let Pair { checkpoint, .. } = Pair::read(path.as_ref())?;
                 let step = checkpoint.step();
                 (loaded(&file, checkpoint, path), Some(step))
             }

@@ -1,18 +1,39 @@
 //! Files that are written whole or not at all.
 
+use crate::names;
 use std::fs::{self, File};
 use std::io::{self, ErrorKind, Write};
 use std::path::{MAIN_SEPARATOR, Path, PathBuf};
-use std::process;
 
-/// Puts these bytes under a name, in place of the file that was there. If that fails, or the process is killed, the name still
-/// has what it had.
-pub fn write(path: &Path, bytes: &[u8]) -> io::Result<()> {
-    let target = resolved(path)?;
-    let mut draft = Draft::in_folder(folder(&target))?;
-    draft.file.write_all(bytes)?;
-    draft.file.sync_all()?;
-    draft.rename(&target)
+/// A file that is whole on the disk, and has yet to take its name from the one that was there. Until then, or if the process is
+/// killed, the name still has what it had.
+pub struct Written {
+    draft: Draft,
+    pub target: PathBuf,
+}
+
+impl Written {
+    pub fn new(path: &Path, bytes: &[u8]) -> io::Result<Written> {
+        let target = resolved(path)?;
+        let mut draft = Draft::in_folder(folder(&target))?;
+        draft.file.write_all(bytes)?;
+        draft.file.sync_all()?;
+        Ok(Written { draft, target })
+    }
+
+    pub fn rename(self) -> io::Result<()> {
+        self.draft.rename(&self.target)
+    }
+}
+
+/// Removes a file, if there is one.
+pub fn remove(path: &Path) -> io::Result<()> {
+    match fs::remove_file(path) {
+        // The name is gone from the disk once the folder is written.
+        Ok(()) => File::open(folder(path))?.sync_all(),
+        Err(why) if why.kind() == ErrorKind::NotFound => Ok(()),
+        Err(why) => Err(why),
+    }
 }
 
 /// Whether a file can be put under that name: makes a draft there, and removes it.
@@ -58,7 +79,7 @@ impl Draft {
         let folder = File::open(name)?;
         let mut number = 0;
         loop {
-            let path = name.join(format!("brothwagon-{}-{number}.unfinished", process::id()));
+            let path = name.join(names::draft(number));
             match File::create_new(&path) {
                 Ok(file) => return Ok(Draft { file, path, folder, renamed: false }),
                 // That of a killed process which had the same id.
