@@ -75,9 +75,9 @@ fn a_flipped_bit_is_found_wherever_it_is() {
     }
     assert_eq!(lines.next(), Some("1936 checkpoints: 0 fit their tallies, 0 have none, 1936 are wrong"));
 
-    // The other commands find it too, but for the step number's, which no tally covers.
+    // The other commands find it too, but for the step number's, which no tally covers: one bit of each byte, to be quick.
     let two = study("bits", "sides 2 1\nviscosity 0.1\nsteps 0\n");
-    for (file, byte) in &copies {
+    for (file, byte) in copies.chunks(8).enumerate().map(|(byte, bits)| &bits[byte % 8]) {
         for words in [format!("show {file}"), format!("run {two} --from {file}")] {
             let expected = if (9..13).contains(byte) { 0 } else { 1 };
             assert_eq!(brothwagon(&words).status.code(), Some(expected), "byte {byte}: {words}");
