@@ -194,6 +194,13 @@ fn show_says_whether_there_is_a_tally() {
     assert_eq!(value(&out(&format!("show {file}")), "tally"), "none");
     let two = study("said", "sides 2 1\nviscosity 0.1\nsteps 5\n");
     assert_eq!(value(&out(&format!("run {two} --from {file}")), "to step"), "355");
+    // A name that leaves no room for .tally.
+    let long = format!("{made}/{}", "a".repeat(250));
+    put(&long, &document::checkpoint(2, 1, STEP, &entries()));
+    assert_eq!(value(&out(&format!("show {long}")), "tally"), "none");
+    let (status, said) = failed(&format!("run {two} --save {long}"));
+    assert_eq!(status, Some(3));
+    assert!(said.contains("a.tally: File name too long"), "{said}");
 }
 
 #[test]

@@ -3,7 +3,7 @@
 use crate::failure::Failure;
 use crate::names;
 use crate::pair::{Fault, Pair};
-use crate::progress::Checked;
+use crate::progress::Checking;
 use std::collections::HashSet;
 use std::fmt;
 use std::fs;
@@ -15,7 +15,7 @@ pub fn check(words: &[&str], out: &mut impl Write) -> Result<(), Failure> {
     let (drafts, checkpoints) = named(words)?;
     let draft = "a draft, as a killed run leaves it; it may be removed once no run saves here";
     let mut told = drafts.iter().try_for_each(|path| writeln!(out, "{path}: {draft}"));
-    let mut progress = Checked::of(checkpoints.len());
+    let mut progress = Checking::of(checkpoints.len());
     let mut counts = Counts::default();
     for path in checkpoints {
         progress.show();
@@ -37,13 +37,10 @@ fn named<'a>(words: &[&'a str]) -> Result<(Vec<&'a str>, Vec<&'a str>), Failure>
     if words.is_empty() {
         return Err(Failure::Unreadable("check takes checkpoint files; brothwagon --help says more".to_string()));
     }
-    let (drafts, mut checkpoints): (Vec<&str>, Vec<&str>) = words.iter().partition(|word| names::is_draft(Path::new(word)));
+    let (drafts, others): (Vec<&str>, Vec<&str>) = words.iter().partition(|word| names::is_draft(Path::new(word)));
     let mut seen = HashSet::new();
-    for word in &mut checkpoints {
-        *word = names::tallied(word).unwrap_or(word);
-    }
-    checkpoints.retain(|path| seen.insert(*path));
-    Ok((drafts, checkpoints))
+    let checkpoints = others.into_iter().map(|name| names::tallied(name).unwrap_or(name));
+    Ok((drafts, checkpoints.filter(|path| seen.insert(*path)).collect()))
 }
 
 /// Reads a checkpoint with its tally, and holds it to its name.

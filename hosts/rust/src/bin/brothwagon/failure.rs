@@ -48,7 +48,7 @@ impl Failure {
         }
     }
 
-    /// This failure in other words, unless they are about no file that is read.
+    /// What is not read, refused or ruined, in other words; what is not saved or written names its file already, or has none.
     fn reworded(self, words: impl FnOnce(String) -> String) -> Failure {
         match self {
             Failure::Unreadable(why) => Failure::Unreadable(words(why)),

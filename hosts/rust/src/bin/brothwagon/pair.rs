@@ -6,7 +6,7 @@ use crate::{names, read};
 use brothwagon::{Checkpoint, Tally};
 use std::path::{Path, PathBuf};
 
-/// What a checkpoint's file holds.
+/// A checkpoint that was read and is not wrong.
 pub struct Pair {
     pub checkpoint: Checkpoint,
     /// Whether there is a tally; if so, the state fits it.

@@ -41,8 +41,8 @@ impl Progress {
     }
 }
 
-/// How far a check of checkpoints is.
-pub struct Checked {
+/// How far a check is.
+pub struct Checking {
     checkpoints: usize,
     began: Instant,
     done: usize,
@@ -50,9 +50,9 @@ pub struct Checked {
     line: Line,
 }
 
-impl Checked {
-    pub fn of(checkpoints: usize) -> Checked {
-        Checked { checkpoints, began: Instant::now(), done: 0, bytes: 0, line: Line::new() }
+impl Checking {
+    pub fn of(checkpoints: usize) -> Checking {
+        Checking { checkpoints, began: Instant::now(), done: 0, bytes: 0, line: Line::new() }
     }
 
     /// Shows how far the check is.

@@ -23,7 +23,8 @@ pub fn checkpoint(path: &Path) -> Result<Checkpoint, Failure> {
 pub fn tally(path: &Path) -> Result<Option<Tally>, Failure> {
     match bytes(path, Tally::BYTES) {
         Ok(file) => Ok(Some(Tally::read(&file)?)),
-        Err(why) if why.kind() == ErrorKind::NotFound => Ok(None),
+        // A checkpoint's name may be too long for its tally to have one.
+        Err(why) if matches!(why.kind(), ErrorKind::NotFound | ErrorKind::InvalidFilename) => Ok(None),
         Err(why) => Err(Failure::unreadable(why)),
     }
 }
