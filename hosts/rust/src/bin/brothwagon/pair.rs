@@ -52,7 +52,7 @@ fn fits(checkpoint: &Checkpoint, tally: &Tally, beside: &Path) -> Result<(), Fai
     let differ = match &tally.differing_planes(&checkpoint.tally()?)[..] {
         [] => return Ok(()),
         [plane] => format!("plane {plane} differs"),
-        [_, _, _, _, _, _, _, _, _] => "all planes differ".to_string(),
+        planes if planes.len() == 9 => "all planes differ".to_string(),
         [planes @ .., last] => {
             let planes: Vec<String> = planes.iter().map(usize::to_string).collect();
             format!("planes {} and {last} differ", planes.join(", "))
