@@ -8,7 +8,7 @@ mod shrink;
 mod sweeps;
 
 use crate::questions::Part;
-use crate::seen::Call;
+use crate::questions::seen::Call;
 use asked::Asked;
 
 pub const CHECKPOINTS: Part<Asked> = Part {

@@ -1,10 +1,18 @@
 //! What the Rust does not know is asked of the library and of a request's own words: the questions, one after the other.
 
+pub mod lent;
+pub mod limits;
+pub mod seen;
+pub mod shown;
+pub mod smaller;
+pub mod spoiled;
+pub mod states;
+
 use crate::Plan;
 use crate::made::Made;
 use crate::progress::Progress;
-use crate::seen::{Call, Difference, Met, Seen};
-use crate::smaller::smallest;
+use seen::{Call, Difference, Met, Seen};
+use smaller::smallest;
 use source::levels::level;
 use std::collections::BTreeMap;
 use std::fmt;

@@ -9,7 +9,7 @@ mod sums;
 mod sweeps;
 
 use crate::questions::Part;
-use crate::seen::{Call, Met};
+use crate::questions::seen::{Call, Met};
 use asked::Asked;
 
 pub const TALLIES: Part<Asked> = Part {

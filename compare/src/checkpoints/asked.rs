@@ -2,10 +2,10 @@
 
 use super::format::{self, Header, Refusal};
 use super::shrink;
-use crate::lent::Lent;
 use crate::questions::Ask;
-use crate::seen::{Call, Difference, Seen};
-use crate::shown;
+use crate::questions::lent::Lent;
+use crate::questions::seen::{Call, Difference, Seen};
+use crate::questions::shown;
 use brothwagon::ffi;
 use std::fmt;
 

@@ -1,7 +1,7 @@
 //! The ways to spoil a checkpoint file that are its own.
 
 use crate::made::Made;
-use crate::spoiled::{Fault, Spoiled};
+use crate::questions::spoiled::{Fault, Spoiled};
 
 pub fn sides(file: &Spoiled) -> (u64, u64) {
     (file.number(5, 2), file.number(7, 2))

@@ -4,8 +4,8 @@ use super::asked::Asked;
 use super::faults::{FAULTS, sides};
 use super::format::Header;
 use crate::made::Made;
-use crate::spoiled::Spoiled;
-use crate::states::{self, other_length, wrong_sides};
+use crate::questions::spoiled::Spoiled;
+use crate::questions::states::{self, other_length, wrong_sides};
 
 /// In turn a state to write, and a file to read.
 pub fn asked(made: &mut Made, place: u64) -> Asked {

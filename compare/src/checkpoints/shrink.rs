@@ -3,8 +3,8 @@
 use super::asked::Asked;
 use super::faults::{put_sides, sides};
 use super::format::Header;
-use crate::smaller::{smaller_sides, with_zeros, without};
-use crate::spoiled::Spoiled;
+use crate::questions::smaller::{smaller_sides, with_zeros, without};
+use crate::questions::spoiled::Spoiled;
 
 pub fn size(state: &Asked) -> (u128, usize) {
     match state {

@@ -2,9 +2,9 @@
 
 use super::asked::Asked;
 use super::format::Header;
-use crate::limits::{LIMITS, LONGER, WIDE, WRAPPED_TO};
 use crate::made::Made;
 use crate::questions::Sweep;
+use crate::questions::limits::{LIMITS, LONGER, WIDE, WRAPPED_TO};
 
 pub const SWEEPS: [Sweep<Asked>; 9] = [
     (86 + 446, prefix),

@@ -3,10 +3,10 @@
 use super::rule::{self, Refusal};
 use super::shrink;
 use super::sums::{self, Tally};
-use crate::lent::Lent;
 use crate::questions::Ask;
-use crate::seen::{Call, Difference, Met, Seen};
-use crate::shown;
+use crate::questions::lent::Lent;
+use crate::questions::seen::{Call, Difference, Met, Seen};
+use crate::questions::shown;
 use brothwagon::ffi;
 use std::fmt;
 

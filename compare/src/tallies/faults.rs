@@ -2,7 +2,7 @@
 
 use super::sums::Tally;
 use crate::made::Made;
-use crate::spoiled::{Fault, Spoiled};
+use crate::questions::spoiled::{Fault, Spoiled};
 
 pub fn numbers(file: &Spoiled) -> Tally {
     std::array::from_fn(|at| file.number(5 + 8 * at, 8))

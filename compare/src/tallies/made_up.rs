@@ -4,10 +4,10 @@ use super::asked::{Asked, Entry, Sides};
 use super::faults::{FAULTS, spoil};
 use super::rule;
 use super::sums::{Tally, wrapped};
-use crate::lent::GUARD;
 use crate::made::Made;
-use crate::spoiled::Spoiled;
-use crate::states::{other_length, populations, sides, wrong_sides};
+use crate::questions::lent::GUARD;
+use crate::questions::spoiled::Spoiled;
+use crate::questions::states::{other_length, populations, sides, wrong_sides};
 
 /// Each kind of question in its turn.
 pub fn asked(made: &mut Made, place: u64) -> Asked {

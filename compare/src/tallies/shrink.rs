@@ -3,8 +3,8 @@
 use super::asked::{Asked, Entry, Sides};
 use super::faults::{numbers, put_numbers};
 use super::sums::{Tally, wrapped};
-use crate::smaller::{smaller_sides, with_zeros, without};
-use crate::spoiled::Spoiled;
+use crate::questions::smaller::{smaller_sides, with_zeros, without};
+use crate::questions::spoiled::Spoiled;
 
 pub fn size(asked: &Asked) -> (u128, usize) {
     let populations = |&(nx, ny): &(u64, u64), f: &[f64]| {

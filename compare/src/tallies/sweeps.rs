@@ -3,9 +3,9 @@
 use super::asked::{Asked, Entry, Sides};
 use super::rule;
 use super::sums::{Tally, wrapped};
-use crate::limits::{LIMITS, LONGER, WIDE, WRAPPED_TO};
 use crate::made::Made;
 use crate::questions::Sweep;
+use crate::questions::limits::{LIMITS, LONGER, WIDE, WRAPPED_TO};
 
 pub const SWEEPS: [Sweep<Asked>; 11] = [
     (SMALL * SMALL, tallied),

@@ -1,6 +1,6 @@
 //! What is seen of the calls that the Rust does not know: it is compared with what a request's words expect, and counted.
 
-use crate::lent::{Item, Lent};
+use super::lent::{Item, Lent};
 use std::fmt;
 
 /// These calls.

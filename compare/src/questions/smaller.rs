@@ -1,7 +1,7 @@
 //! Finds the smallest question like a given one whose answer still differs.
 
-use crate::questions::{Ask, Question};
-use crate::seen::Difference;
+use super::seen::Difference;
+use super::{Ask, Question};
 
 /// The longest list of which parts are turned to zeros; a longer one is, or is not, as a whole.
 const LONGEST: usize = 4096;
