@@ -1,6 +1,5 @@
 //! One call of the library, with all that it is given.
 
-use crate::checkpoints::format::cells;
 use crate::made::Made;
 use crate::rules;
 use brothwagon::ffi;
@@ -137,16 +136,14 @@ pub struct Case {
 impl Case {
     /// Whether the rules allow a grid of these sides.
     pub fn has_grid(&self) -> bool {
-        self.grid_cells().is_some()
-    }
-
-    fn grid_cells(&self) -> Option<usize> {
-        cells(self.settings.nx, self.settings.ny)
+        let ffi::Settings { nx, ny, .. } = self.settings;
+        let side = 1..=4096;
+        side.contains(&nx) && side.contains(&ny) && nx * ny <= 1_048_576
     }
 
     /// Cells of the grid. Where there is none of these sides, the buffers are as for a grid of four.
     pub fn cells(&self) -> usize {
-        self.grid_cells().unwrap_or(4)
+        if self.has_grid() { (self.settings.nx * self.settings.ny) as usize } else { 4 }
     }
 
     /// The length that a buffer should have.

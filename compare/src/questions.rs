@@ -167,6 +167,6 @@ impl<A: Ask> Question<A> {
 
 impl<A: Ask> fmt::Display for Question<A> {
     fn fmt(&self, out: &mut fmt::Formatter) -> fmt::Result {
-        write!(out, "{}\n  lent {} items past a multiple of eight", self.asked, self.past)
+        write!(out, "{}\n  what is lent begins {} items past a multiple of eight", self.asked, self.past)
     }
 }

@@ -14,7 +14,7 @@ use asked::Asked;
 
 pub const TALLIES: Part<Asked> = Part {
     word: "--tallies",
-    name: "tallies",
+    name: "questions about tallies",
     sweeps: &sweeps::SWEEPS,
     made_up: made_up::asked,
     answers: &[

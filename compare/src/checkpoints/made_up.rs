@@ -44,7 +44,7 @@ fn read(made: &mut Made) -> Asked {
 }
 
 fn state(made: &mut Made) -> (Header, Vec<f64>) {
-    let (nx, ny) = states::sides(made);
+    let (nx, ny) = states::sides(made, 512);
     let any = made.next() as u32;
     let step = made.pick(&[any, any, any, 0, 1, 0xff, 0x100, 0xffff, 0x1_0000, 0x7fff_ffff, 0x8000_0000, u32::MAX]);
     (Header { nx, ny, step }, states::populations(made, (nx, ny)))

@@ -1,9 +1,10 @@
-//! Makes up the states of a grid, mostly small, and what is wrong with how one is lent.
+//! Makes up the states of a grid, and what is wrong with how one is lent.
 
 use crate::made::Made;
 
-pub fn sides(made: &mut Made) -> (u64, u64) {
-    let most = if made.one_in(512) { 64 } else { made.pick(&[2, 3, 4, 4, 6, 12]) };
+/// Mostly small; one in so many is larger.
+pub fn sides(made: &mut Made, between_larger: u64) -> (u64, u64) {
+    let most = if made.one_in(between_larger) { 64 } else { made.pick(&[2, 3, 4, 4, 6, 12]) };
     (1 + made.below(most), 1 + made.below(most))
 }
 

@@ -25,7 +25,7 @@ pub enum Asked {
 }
 
 /// One entry that is written.
-#[derive(Clone, Copy, Debug)]
+#[derive(Clone, Copy)]
 pub struct Entry {
     /// Its x, y and direction.
     pub place: [usize; 3],
@@ -107,7 +107,7 @@ impl Seen {
             let number = ffi::write_entry(&settings(sides), x, y, direction, pattern, f.longer(extra), ten(&mut tally));
             self.answers(Call::WriteEntry, bare(refused), (number, []))?;
             self.same("entry", &wanted, &f)?;
-            self.same("number", &moved, &tally)?;
+            self.same("tally number", &moved, &tally)?;
         }
         Ok(())
     }
@@ -136,7 +136,7 @@ impl Seen {
         let number = ffi::write_tally(ten(&mut tally), file.part());
         self.answers(Call::WriteTally, bare(refused), (number, []))?;
         self.same("byte", &wanted, &file)?;
-        self.same("number", &lent, &tally)?;
+        self.same("tally number", &lent, &tally)?;
         if number == 0 { self.reads_tally(file, Lent::canaries(10, 0)) } else { Ok(()) }
     }
 
@@ -145,7 +145,7 @@ impl Seen {
         let refused = rule::read(lent.part(), wanted.part());
         let number = ffi::read_tally(file.part(), tally.part());
         self.answers(Call::ReadTally, bare(refused), (number, []))?;
-        self.same("number", &wanted, &tally)?;
+        self.same("tally number", &wanted, &tally)?;
         self.same("byte", &lent, &file)
     }
 }
@@ -160,18 +160,25 @@ impl Sides {
     }
 }
 
+impl fmt::Display for Entry {
+    fn fmt(&self, out: &mut fmt::Formatter) -> fmt::Result {
+        let Entry { place: [x, y, direction], pattern, sides, extra } = self;
+        write!(out, "({x}, {y}, {direction}) is to be {pattern:016x}; sides {sides:?}, entries too many {extra}")
+    }
+}
+
 impl fmt::Display for Asked {
     fn fmt(&self, out: &mut fmt::Formatter) -> fmt::Result {
         let of = |(nx, ny): &(u64, u64), f: &[f64]| format!("{nx} by {ny}, {} entries\n  {}", f.len(), shown::patterns(f));
         match self {
             Asked::Tally { sides, f } => write!(out, "the tally of {}", of(sides, f)),
             Asked::Entries { sides, f, beside, list } => {
-                write!(out, "{} entries written on {}", list.len(), of(sides, f))?;
+                write!(out, "entries written on {}", of(sides, f))?;
                 match beside {
                     Some(numbers) => write!(out, "\n  beside {numbers:x?}")?,
                     None => write!(out, "\n  beside their own tally")?,
                 }
-                list.iter().try_for_each(|entry| write!(out, "\n  {entry:x?}"))
+                list.iter().try_for_each(|entry| write!(out, "\n  {entry}"))
             }
             Asked::Stream { sides, kinds, post } => {
                 write!(out, "streaming with faces of kinds {kinds:?} on {}", of(sides, post))

@@ -17,7 +17,7 @@ pub fn asked(made: &mut Made, place: u64) -> Asked {
 
 /// Mostly good; else the populations have another length, or a side is wrong.
 fn tallied(made: &mut Made) -> Asked {
-    let mut sides = sides(made);
+    let mut sides = sides(made, 16);
     let mut f = populations(made, sides);
     if made.one_in(6) {
         f.resize(other_length(made, f.len()), 1.0);
@@ -29,7 +29,7 @@ fn tallied(made: &mut Made) -> Asked {
 }
 
 fn entered(made: &mut Made) -> Asked {
-    let sides = sides(made);
+    let sides = sides(made, 512);
     let f = populations(made, sides);
     let beside = made.one_in(2).then(|| ten(made));
     let mut list: Vec<Entry> = Vec::new();
@@ -61,7 +61,7 @@ fn entry(made: &mut Made, (nx, ny): (u64, u64)) -> Entry {
 
 /// Each axis has both faces periodic, or two kinds of its own.
 fn streamed(made: &mut Made) -> Asked {
-    let sides = sides(made);
+    let sides = sides(made, 16);
     let mut kinds = [0; 4];
     for axis in kinds.chunks_mut(2) {
         if !made.one_in(3) {

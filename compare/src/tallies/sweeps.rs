@@ -11,7 +11,7 @@ pub const SWEEPS: [Sweep<Asked>; 11] = [
     (SMALL * SMALL, tallied),
     (SMALL * SMALL * 81, streamed),
     (5 * 6 * 11, entered),
-    (LIMITS.len(), tallied_at_a_limit),
+    (3 * LIMITS.len(), at_a_limit),
     (WIDE.len() * WRAPPED_TO.len(), tallied_wide),
     (86, prefix),
     (LONGER.len(), longer),
@@ -34,8 +34,9 @@ fn populations(cells: u64) -> Vec<f64> {
     (0..9 * cells).map(|place| if place % 2 == 0 { made.special() } else { made.bits() }).collect()
 }
 
-fn whole(sides: (u64, u64)) -> Asked {
-    Asked::Tally { sides, f: populations(sides.0 * sides.1) }
+/// An entry that is to be all ones.
+fn entry(place: [usize; 3]) -> Entry {
+    Entry { place, pattern: u64::MAX, sides: Sides::Right, extra: 0 }
 }
 
 /// Ten numbers, the first of them the sum of the others, which wraps.
@@ -47,25 +48,32 @@ fn tally() -> Tally {
 }
 
 fn tallied(place: usize) -> Asked {
-    whole(small(place))
+    let sides @ (nx, ny) = small(place);
+    Asked::Tally { sides, f: populations(nx * ny) }
 }
 
 /// Every face that copies, with every other.
 fn streamed(place: usize) -> Asked {
-    let (sides, faces) = (small(place), place / (SMALL * SMALL));
+    let (sides @ (nx, ny), faces) = (small(place), place / (SMALL * SMALL));
     let kinds = [1, 3, 9, 27].map(|by| [0, 1, 3][faces / by % 3]);
-    Asked::Stream { sides, kinds, post: populations(sides.0 * sides.1) }
+    Asked::Stream { sides, kinds, post: populations(nx * ny) }
 }
 
 /// Every place of a grid of 3 by 4, and those next to it, beside the populations' own tally and beside other numbers.
 fn entered(place: usize) -> Asked {
-    let entry = Entry { place: [place % 5, place / 5 % 6, place / 30], pattern: !0, sides: Sides::Right, extra: 0 };
-    let beside = place.is_multiple_of(2).then(tally);
-    Asked::Entries { sides: (3, 4), f: populations(12), beside, list: vec![entry; 2] }
+    let list = vec![entry([place % 5, place / 5 % 6, place / 30]); 2];
+    Asked::Entries { sides: (3, 4), f: populations(12), beside: place.is_multiple_of(2).then(tally), list }
 }
 
-fn tallied_at_a_limit(place: usize) -> Asked {
-    whole(LIMITS[place])
+/// On each of these grids the tally, the last entry, and streaming between x faces of NoSlip and y faces of Symmetry: lossless.
+fn at_a_limit(place: usize) -> Asked {
+    let sides @ (nx, ny) = LIMITS[place / 3];
+    let f = populations(nx * ny);
+    match place % 3 {
+        0 => Asked::Tally { sides, f },
+        1 => Asked::Entries { sides, f, beside: None, list: vec![entry([nx as usize - 1, ny as usize - 1, 8])] },
+        _ => Asked::Stream { sides, kinds: [1, 1, 3, 3], post: f },
+    }
 }
 
 fn tallied_wide(place: usize) -> Asked {
