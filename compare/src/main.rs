@@ -46,8 +46,9 @@ that are spoiled. The number, the answer and all that is lent are compared. With
 
 Then, or alone (--tallies), come tallies, compared in the same way. The library is given every small grid, every place of
 one, every value of each byte of a tally file, and sides and lengths about their limits; then 2 N made-up questions, a fifth
-each: it tallies populations, it writes entries, whose tally is worked out afresh after each, it streams with faces, which
-keeps the sum on a lossless grid, and it writes and reads tally files, good and spoiled.
+of each kind: it tallies populations; it writes entries one after the other, and the tally is worked out afresh after each;
+it streams with faces, which keeps the sum on a lossless grid; it writes tally files, and it reads spoiled ones. With
+--tallies, --only picks one of these.
 
 --studies runs each study of the repository for 20 steps instead, or for all its steps (--whole), prints the fingerprint
 that the Rust gives it, and ends with status 1 where the library gives another, or where a study is not physical: a speed of

@@ -130,9 +130,9 @@ impl<A: Ask> Part<A> {
             println!("  {:<28}{times:>9} times", met.to_string());
         }
         let Counts { questions, compared, .. } = counts;
+        let asked = format!("{questions} {} on {}", self.name, level());
         let others: String = self.others(counts).map(|(met, times)| format!("; {met} {times} times")).collect();
-        let name = format!("{questions} {} on {}", self.name, level());
-        println!("compare: {name}, {compared} bytes and entries compared, 0 differences{others}");
+        println!("compare: {asked}, {compared} bytes and entries compared, 0 differences{others}");
     }
 
     fn met_all(&self, plan: &Plan, counts: &Counts) -> bool {

@@ -3,7 +3,7 @@
 use super::asked::Asked;
 use super::faults::{put_sides, sides};
 use super::format::Header;
-use crate::questions::smaller::{smaller_sides, with_zeros, without};
+use crate::questions::smaller::{shorter, smaller_sides, with_zeros, without};
 use crate::questions::spoiled::Spoiled;
 
 pub fn size(state: &Asked) -> (u128, usize) {
@@ -39,7 +39,7 @@ fn simpler_files(file: &[u8], room: usize) -> impl Iterator<Item = Asked> {
     let length = file.len();
     let cuts = [0, 5, 9, 13, length / 2, length.saturating_sub(8), length.saturating_sub(1)].into_iter();
     let cut = move |to: usize| Asked::Read { file: file[..to.min(length)].to_vec(), room };
-    let rooms = [0, room / 2, room.saturating_sub(1)].into_iter();
+    let rooms = shorter(room).into_iter();
     let into = move |room| Asked::Read { file: file.to_vec(), room };
     let zeroed = with_zeros(file, 0).map(move |file| Asked::Read { file, room });
     rooms.map(into).chain(cuts.map(cut)).chain(files_on_smaller(file, room)).chain(zeroed)

@@ -30,6 +30,11 @@ pub fn smaller_sides(nx: u64, ny: u64) -> impl Iterator<Item = (u64, u64, usize)
     sides.into_iter().filter_map(move |(x, y)| Some((x, y, less(x, y)? as usize)))
 }
 
+/// Lengths that a lent buffer may have instead of a longer one.
+pub fn shorter(length: usize) -> [usize; 3] {
+    [0, length / 2, length.saturating_sub(1)]
+}
+
 /// A list without so many of its last items.
 pub fn without<T: Clone>(list: &[T], last: usize) -> Vec<T> {
     list[..list.len().saturating_sub(last)].to_vec()

@@ -3,7 +3,7 @@
 use super::asked::{Asked, Entry, Sides};
 use super::faults::{numbers, put_numbers};
 use super::sums::{Tally, wrapped};
-use crate::questions::smaller::{smaller_sides, with_zeros, without};
+use crate::questions::smaller::{shorter, smaller_sides, with_zeros, without};
 use crate::questions::spoiled::Spoiled;
 
 pub fn size(asked: &Asked) -> (u128, usize) {
@@ -52,7 +52,11 @@ pub fn simpler(asked: &Asked) -> Box<dyn Iterator<Item = Asked> + '_> {
             let plainer = with_zeros(kinds, 0).map(|kinds| (*sides, all(kinds), post.clone()));
             Box::new(smaller.chain(plainer).map(|(sides, kinds, post)| Asked::Stream { sides, kinds, post }))
         }
-        Asked::Write { tally, room } => Box::new(simpler_tallies(tally).map(|tally| Asked::Write { tally, room: *room })),
+        Asked::Write { tally, room } => {
+            let rooms = shorter(*room).map(|room| (*tally, room)).into_iter();
+            let others = rooms.chain(simpler_tallies(tally).map(|tally| (tally, *room)));
+            Box::new(others.map(|(tally, room)| Asked::Write { tally, room }))
+        }
         Asked::Read { file, room } => Box::new(simpler_files(file, *room)),
     }
 }
@@ -74,10 +78,14 @@ fn simpler_lists(list: &[Entry]) -> impl Iterator<Item = Vec<Entry>> {
 
 fn plainer(entry: Entry) -> [Entry; 6] {
     let [x, y, direction] = entry.place;
-    let at = |place| Entry { place, ..entry };
-    let with = [Entry { pattern: 0, ..entry }, Entry { sides: Sides::Right, ..entry }, Entry { extra: 0, ..entry }];
-    let [none, right, fitting] = with;
-    [right, fitting, none, at([0, y, direction]), at([x, 0, direction]), at([x, y, 0])]
+    [
+        Entry { sides: Sides::Right, ..entry },
+        Entry { extra: 0, ..entry },
+        Entry { pattern: 0, ..entry },
+        Entry { place: [0, y, direction], ..entry },
+        Entry { place: [x, 0, direction], ..entry },
+        Entry { place: [x, y, 0], ..entry },
+    ]
 }
 
 /// The populations' own tally, or zeros among these numbers.
@@ -96,7 +104,7 @@ fn simpler_tallies(tally: &Tally) -> impl Iterator<Item = Tally> {
 
 fn simpler_files(file: &[u8], room: usize) -> impl Iterator<Item = Asked> {
     let length = file.len();
-    let rooms = [0, room / 2, room.saturating_sub(1)].into_iter().map(|room| (file.to_vec(), room));
+    let rooms = shorter(room).into_iter().map(|room| (file.to_vec(), room));
     let cuts = [0, 5, length / 2, length.saturating_sub(1)].into_iter().map(move |to| (file[..to.min(length)].to_vec(), room));
     let zeroed = files_of_simpler(file).into_iter().chain(with_zeros(file, 0)).map(move |file| (file, room));
     rooms.chain(cuts).chain(zeroed).map(|(file, room)| Asked::Read { file, room })
