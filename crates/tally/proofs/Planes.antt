@@ -7,7 +7,7 @@ use native.Mathlib.Omega.{arith}
 use borrow.Author.Count.{below-none, below-more}
 use lib.ListN.{length, getD, set, length-set}
 use lib.Seq.{getD-set-same, getD-set-other}
-use Rattle.grid.specs.Grid.{Grid, mostCells}
+use Rattle.grid.specs.Grid.{mostCells}
 use Rattle.grid.proofs.Radix.{within, row-in, index-in}
 use Rattle.sums.specs.Sums.{sum, wrapped}
 use Rattle.sums.proofs.Sums.{sum-cong}

@@ -2,14 +2,13 @@
 use mathlib.Core.Path.{_≡_, refl, sym, ap, _∙_}
 use mathlib.Core.Bool.{false}
 use mathlib.Core.List.{List}
-use Prim.Native.Nat.{ℕ, _+_, _*_, _≤_}
+use Prim.Native.Nat.{ℕ}
 use native.Mathlib.Omega.{arith}
 use borrow.Author.Tests.{eq-eqb}
 use lib.ListN.{length}
-use Rattle.words.specs.Words.{big, partAt, numbersAt, Laid}
-use Rattle.words.proofs.Words.{Bytes, numbers-length, part-of}
-use Rattle.words.proofs.Laid.{number-stands, numbers-stand}
-use Rattle.settings.specs.declared.Settings.{Settings}
+use Rattle.words.specs.Words.{numbersAt}
+use Rattle.words.proofs.Words.{Bytes, numbers-length}
+use Rattle.words.proofs.Laid.{part-stands, numbers-stand}
 use Rattle.settings.specs.Tests.{sizeBad, tallyCountBad, sumsBad}
 use Rattle.settings.specs.Refusals as Call
 use Rattle.settings.specs.Refusals.{refusal}
@@ -17,7 +16,7 @@ use Rattle.settings.specs.Outcome.{Written, outcome}
 use Rattle.settings.proofs.Laws.{known}
 use Rattle.settings.proofs.Outcome.{answered}
 use Rattle.tally.specs.File.{fileOf, tenOf, readRefusal, tallyWritten, tallyRead}
-use Rattle.tally.proofs.Files.{Ten, Read, accepted-as, file-length, file-laid, ten-of, count-of-file, version-of-file, ten-of-file}
+use Rattle.tally.proofs.Files.{Ten, accepted-as, file-length, file-laid, ten-of, count-of-file, version-of-file, ten-of-file}
 
 -- what is written, and what is read, where the number is 0
 written-done : (t file : List ℕ) → refusal (Call.writeTally t (length file)) ≡ 0 → tallyWritten t file ≡ outcome 0 (fileOf t)
@@ -52,17 +51,13 @@ read-back t file lent ten zero fits =
 -- ---- AN ACCEPTED FILE IS THE FILE OF WHAT WAS READ
 
 module _ (file t : List ℕ) (bytes : Bytes file) (zero : readRefusal file (length t) ≡ 0) where
-  -- the bytes of a part stand where it is read
-  stands : (n at v : ℕ) → at + n ≤ length file → partAt n file at ≡ v → Laid file file at (big n v)
-  stands n at v inside is = rw (sym is ∙ part-of n file at inside) (number-stands file at n bytes)
-
   its-file : file ≡ fileOf (tenOf file)
   its-file =
       let k = accepted-as file (length t) zero in
       rw (ten-of file (k .size))
       (file-laid (numbersAt 8 10 file 5) file file file file (numbers-length 8 10 file 5) (k .size)
-      (stands 4 0 81 (omega (arith, k .size)) (k .count))
-      (stands 1 4 1 (omega (arith, k .size)) (k .version))
+      (part-stands file 4 0 81 bytes (omega (arith, k .size)) (k .count))
+      (part-stands file 1 4 1 bytes (omega (arith, k .size)) (k .version))
       (numbers-stand file 5 8 10 bytes))
 
   pub accepted : file ≡ fileOf (tallyRead file t .buffer)

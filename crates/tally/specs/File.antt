@@ -1,13 +1,13 @@
 -- The tally as a file: its bytes, what is read of it, and what writing and reading answer and leave.
 use mathlib.Core.Bool.{cond}
 use mathlib.Core.List.{List, _++_}
+use Prim.Native.Nat.{ℕ}
 use lib.Dec.{eqb}
 use lib.ListN.{length, replicate}
 use Rattle.words.specs.Words.{big, bigs, partAt, numbersAt}
 use Rattle.settings.specs.Refusals as Call
 use Rattle.settings.specs.Refusals.{refusal}
 use Rattle.settings.specs.Outcome.{Written, written}
-use Prim.Native.Nat.{ℕ}
 
 -- ---- THE FILE
 

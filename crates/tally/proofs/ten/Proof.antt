@@ -1,6 +1,5 @@
 -- `tally::ten` meets its contract.
 use mathlib.Core.Path.{sym, _∙_}
-use native.Mathlib.Omega.{arith}
 use borrow.Author.Needs.{needs}
 use Rattle.tally.proofs.Files.{ten-of, ten-of-other}
 use Rattle.tally.proofs.ten.Statement.{statement}
