@@ -252,7 +252,8 @@ fn a_tallys_name_is_no_checkpoints() {
 fn what_cannot_be_read_is_wrong_and_what_is_not_understood_is_said() {
     let made = folder("unread");
     assert!(wrong(&format!("{made}/missing")).ends_with("missing: WRONG: No such file or directory (os error 2)"));
-    assert!(wrong(&made).ends_with("unread: WRONG: Is a directory (os error 21)"));
+    let (here, files) = (path(&made), path(&format!("{made}/*")));
+    assert_eq!(wrong(&made), format!("{here}: WRONG: it is a folder; {files} names the files in it"));
     assert_eq!(
         failed("check"),
         (Some(2), "brothwagon: check takes checkpoint files; brothwagon --help says more\n".to_string())

@@ -45,6 +45,10 @@ fn named<'a>(words: &[&'a str]) -> Result<(Vec<&'a str>, Vec<&'a str>), Failure>
 
 /// Reads a checkpoint with its tally, and holds it to its name.
 fn checked(path: &Path) -> Result<Pair, Fault> {
+    if path.is_dir() {
+        let files = format!("it is a folder; {} names the files in it", path.join("*").display());
+        return Err(Fault::of(path, Failure::Unreadable(files)));
+    }
     let tally = names::tally_of(path);
     if !path.exists() && tally.exists() {
         return Err(Fault::of(&tally, Failure::Unreadable(format!("there is no checkpoint {}", path.display()))));
