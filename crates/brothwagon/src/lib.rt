@@ -256,7 +256,7 @@ pub extern "C" fn brothwagon_read_checkpoint(
     a.number
 }
 
-// ---- the tally
+// ---- the tally: an answer where it is worked out, and a lent buffer where it is moved or read
 
 #[no_mangle]
 pub extern "C" fn brothwagon_tally(w: &[u64; 19], f: &[u64], t: &mut [u64; 10]) -> u32
