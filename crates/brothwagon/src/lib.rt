@@ -264,6 +264,7 @@ pub extern "C" fn brothwagon_tally(w: &[u64; 19], f: &[u64], t: &mut [u64; 10]) 
         ≡ tallyTold (tallied (settingsOf (now (w .entry))) (now (f .entry))) ⌝ }
 {
     let a = tally::tally(host::settings_of(w), f);
+    // an array goes from a field by way of a local
     let numbers = a.tally;
     *t = numbers;
     a.number

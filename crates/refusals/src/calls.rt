@@ -83,6 +83,7 @@ pub fn tally(case: &[u8], s: Settings, f: &[u64]) {
     show::zeros(b"tally", case, r.number, same(&t, &[0; 10]));
 }
 
+// Of an array that was lent, the prover knows the length by its type alone.
 fn ten_kept(t: &[u64; 10]) -> bool {
     kept(t)
 }

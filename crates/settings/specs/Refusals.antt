@@ -112,7 +112,8 @@ pub data Call : Type 0 where
   writeTally : (tally : List ℕ) (bytes : ℕ) → Call
   readTally : (length count v : ℕ) (ten : List ℕ) (tally : ℕ) → Call
 
--- what it tests. Populations and post-collision populations have nine entries a cell, an initial table three, a velocity buffer two
+-- what it tests. Populations and post-collision populations have nine entries a cell, an initial table three, a velocity buffer two;
+-- a tally has ten numbers, its file 85 bytes
 abbrev pub tests : Call → List Test
 tests (initialize s table f) = sides s ∷ lengths s 9 f ∷ lengths s 3 table ∷ []
 tests (density s f x y) = sides s ∷ lengths s 9 f ∷ place s x y ∷ []

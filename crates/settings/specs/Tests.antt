@@ -39,7 +39,7 @@ lengthBad nx ny per len = not (eqb len (per * (nx * ny)))
 unfoldable pub bytesBad : ℕ → ℕ → ℕ → ℕ → Bool
 bytesBad nx ny head len = not (eqb len (head + 72 * (nx * ny)))
 
--- or a tally has it, or a tally's file, which have the same length on every grid
+-- or a tally or its file has it, which is not `size`, whatever the grid: ten numbers, 85 bytes
 unfoldable pub sizeBad : ℕ → ℕ → Bool
 sizeBad size len = not (eqb len size)
 
@@ -183,7 +183,7 @@ cutBad h = ltb (h .length) 9
 unfoldable pub countBad : Head → Bool
 countBad h = bytesBad (h .nx) (h .ny) 9 (h .count) || bytesBad (h .nx) (h .ny) 13 (h .length)
 
--- of a tally's file: 81 bytes follow the count
+-- of a tally's file: the count is 81, the length 85
 unfoldable pub tallyCountBad : ℕ → ℕ → Bool
 tallyCountBad length count = sizeBad 81 count || sizeBad 85 length
 

@@ -109,7 +109,8 @@ static uint32_t read_tally(const Call *c) {
     return brothwagon_read_tally(only_read_file(c), c->length[BYTES], tally_sums(), c->length[SUMS]);
 }
 
-/* The name; the call; whether f, post, u, table, tally and file are lent; numbers and words of the answer; what is tested. */
+/* The name; the call; whether f, post, u, table, tally and file are lent with a length that number 2 tests; numbers and words of
+ * the answer; what is tested. */
 const Operation INITIALIZE = {"brothwagon_initialize", initialize, {1, 0, 0, 1}, 0, 0, {1, 2, 0}};
 const Operation DENSITY = {"brothwagon_density", density, {1, 0, 0, 0}, 1, 0, {1, 2, 6, 0}};
 const Operation VELOCITY = {"brothwagon_velocity", velocity, {1, 0, 0, 0}, 2, 0, {1, 2, 4, 6, 0}};

@@ -36,7 +36,7 @@ fn wrong(file: &str) -> String {
     let (status, said, _) = check(&[file.to_string()]);
     assert_eq!(status, Some(1), "{said}");
     let (line, counts) = said.split_once('\n').unwrap();
-    assert_eq!(counts, "1 checkpoint: 0 fit their tallies, 0 have none, 1 is wrong\n");
+    assert_eq!(counts, "1 checked: 0 fit their tallies, 0 have none, 1 is wrong\n");
     line.to_string()
 }
 
@@ -73,7 +73,7 @@ fn a_flipped_bit_is_found_wherever_it_is() {
         let line = lines.next().unwrap();
         assert!(line.starts_with(&path(file)) && line.contains(": WRONG: "), "byte {byte}: {line}");
     }
-    assert_eq!(lines.next(), Some("1936 checkpoints: 0 fit their tallies, 0 have none, 1936 are wrong"));
+    assert_eq!(lines.next(), Some("1936 checked: 0 fit their tallies, 0 have none, 1936 are wrong"));
 
     // The other commands find it too, but for the step number's, which no tally covers: one bit of each byte, to be quick.
     let two = study("bits", "sides 2 1\nviscosity 0.1\nsteps 0\n");
@@ -97,7 +97,7 @@ fn an_archive_is_checked_by_all_its_names() {
         format!("{ten}: fits its tally, 5 by 4, step 10"),
         format!("{twenty}: fits its tally, 5 by 4, step 20"),
         format!("{thirty}: fits its tally, 5 by 4, step 30"),
-        "3 checkpoints: 3 fit their tallies, 0 have none, 0 are wrong".to_string(),
+        "3 checked: 3 fit their tallies, 0 have none, 0 are wrong".to_string(),
     ];
     assert_eq!(said.lines().collect::<Vec<_>>(), expected);
     // No terminal, so no line says how far it is.
@@ -115,10 +115,10 @@ fn an_archive_is_checked_by_all_its_names() {
         format!("{twenty}: no tally, 5 by 4, step 20"),
         format!("{thirty}.tally: WRONG: there is no checkpoint {thirty}"),
         format!("{}: WRONG: refused with number 13: the file's version is not 1", path(&flow)),
-        "4 checkpoints: 1 fits its tally, 1 has none, 2 are wrong".to_string(),
+        "4 checked: 1 fits its tally, 1 has none, 2 are wrong".to_string(),
     ];
     assert_eq!(said.lines().collect::<Vec<_>>(), expected);
-    assert_eq!((status, &rest[..]), (Some(1), "brothwagon: 2 checkpoints are wrong\n"));
+    assert_eq!((status, &rest[..]), (Some(1), "brothwagon: 2 of 4 are wrong\n"));
 }
 
 #[test]
@@ -252,8 +252,8 @@ fn a_tallys_name_is_no_checkpoints() {
 fn what_cannot_be_read_is_wrong_and_what_is_not_understood_is_said() {
     let made = folder("unread");
     assert!(wrong(&format!("{made}/missing")).ends_with("missing: WRONG: No such file or directory (os error 2)"));
-    let (here, files) = (path(&made), path(&format!("{made}/*")));
-    assert_eq!(wrong(&made), format!("{here}: WRONG: it is a folder; {files} names the files in it"));
+    let (here, files) = (path(&made), path(&format!("{made}/*.checkpoint*")));
+    assert_eq!(wrong(&made), format!("{here}: WRONG: it is a folder; {files} names its checkpoints"));
     assert_eq!(
         failed("check"),
         (Some(2), "brothwagon: check takes checkpoint files; brothwagon --help says more\n".to_string())
@@ -276,10 +276,10 @@ fn a_wrong_file_is_told_whatever_becomes_of_the_answer() {
     let unread = || io::pipe().unwrap().1;
     let full = || File::create("/dev/full").unwrap();
     assert_eq!(answering(&[&good], unread()), (Some(0), String::new()));
-    assert_eq!(answering(&[&good, &bad], unread()), (Some(1), "brothwagon: 1 checkpoint is wrong\n".to_string()));
+    assert_eq!(answering(&[&good, &bad], unread()), (Some(1), "brothwagon: 1 of 2 is wrong\n".to_string()));
     let (status, said) = answering(&[&good], full());
     assert_eq!(status, Some(3), "{said}");
     let (status, said) = answering(&[&good, &bad], full());
     assert_eq!(status, Some(1), "{said}");
-    assert!(said.starts_with("brothwagon: 1 checkpoint is wrong; the answer cannot be written: "), "{said}");
+    assert!(said.starts_with("brothwagon: 1 of 2 is wrong; the answer cannot be written: "), "{said}");
 }

@@ -5,7 +5,7 @@ mod document;
 mod files;
 mod tallies;
 
-use asked::{failed, out, path, ruined, study, value};
+use asked::{brothwagon, failed, out, path, ruined, study, value};
 use files::{bytes, folder, names, put};
 use std::fs::{self, Permissions};
 use std::os::unix::fs::{FileExt, PermissionsExt, symlink};
@@ -76,7 +76,8 @@ fn checkpoints_along_the_way_are_those_that_shorter_runs_save() {
     let from = format!("--from {made}/all/{}", expected[1]);
     let said = out(&format!("run {flow} --steps 8 {from} --into {made}/sevens --every 7"));
     assert!(value(&said, "checkpoints").starts_with("2 in "), "{said}");
-    assert_eq!(names(&format!("{made}/sevens")).len(), 4);
+    let sevens = ["step-0000000021.checkpoint", "step-0000000028.checkpoint"];
+    assert_eq!(names(&format!("{made}/sevens")), sevens.map(|name| [name.to_string(), format!("{name}.tally")]).concat());
     out(&format!("run {flow} --steps 28 --save {made}/short"));
     assert_eq!(bytes(&format!("{made}/sevens/step-0000000028.checkpoint")), bytes(&format!("{made}/short")));
 
@@ -252,9 +253,35 @@ fn a_link_is_followed_and_stays() {
     out(&format!("run {cell} --save {made}/link"));
     assert!(fs::symlink_metadata(path(&format!("{made}/link"))).unwrap().is_symlink());
     assert_eq!(bytes(&format!("{made}/far/real")).len(), 85);
-    // The tally goes by the name that was given, and that of the file which is no more goes with it.
-    assert_eq!(names(&format!("{made}/far")), ["real"]);
-    assert_eq!(value(&out(&format!("show {made}/link")), "tally"), "fits");
+    // The tally stands beside the file, and is found by either name.
+    assert_eq!(names(&format!("{made}/far")), ["real", "real.tally"]);
+    assert_eq!(names(&made), ["far", "link"]);
+    for name in ["link", "far/real"] {
+        assert_eq!(value(&out(&format!("show {made}/{name}")), "tally"), "fits");
+        assert_eq!(value(&out(&format!("run {cell} --from {made}/{name}")), "from tally"), "fits");
+    }
+    let mut damaged = bytes(&format!("{made}/far/real"));
+    damaged[84] ^= 1;
+    put(&format!("{made}/far/real"), &damaged);
+    for words in [format!("show {made}/link"), format!("run {cell} --from {made}/link"), format!("check {made}/link")] {
+        assert_eq!(brothwagon(&words).status.code(), Some(1), "{words}");
+    }
+}
+
+#[test]
+fn a_link_in_the_place_of_a_tally_gives_way() {
+    let made = folder("linked-tally");
+    let cell = study("linked-tally", "sides 1 1\nviscosity 0.1\nsteps 5\n");
+    put(&format!("{made}/other"), b"another's");
+    for leads in ["other", "end", "nowhere"] {
+        let _ = fs::remove_file(path(&format!("{made}/end.tally")));
+        symlink(leads, path(&format!("{made}/end.tally"))).unwrap();
+        out(&format!("run {cell} --save {made}/end"));
+        assert!(fs::symlink_metadata(path(&format!("{made}/end.tally"))).unwrap().is_file());
+        assert_eq!(value(&out(&format!("show {made}/end")), "tally"), "fits");
+    }
+    assert_eq!(bytes(&format!("{made}/other")), b"another's");
+    assert_eq!(names(&made), ["end", "end.tally", "other"]);
 }
 
 #[test]

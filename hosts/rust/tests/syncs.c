@@ -19,7 +19,7 @@ static void *real(const char *name) { return dlsym(RTLD_NEXT, name); }
 static void say(const char *what, const char *path, const char *then) {
     static int said = 0;
     const char *kill = getenv("KILL");
-    if (*kill && said++ == atoi(kill)) {
+    if (kill && *kill && said++ == atoi(kill)) {
         raise(SIGKILL);
     }
     char line[9000];

@@ -4,6 +4,7 @@ use crate::failure::Failure;
 use crate::names;
 use crate::pair::{Fault, Pair};
 use crate::progress::Checking;
+use crate::whole;
 use std::collections::HashSet;
 use std::fmt;
 use std::fs;
@@ -46,7 +47,7 @@ fn named<'a>(words: &[&'a str]) -> Result<(Vec<&'a str>, Vec<&'a str>), Failure>
 /// Reads a checkpoint with its tally, and holds it to its name.
 fn checked(path: &Path) -> Result<Pair, Fault> {
     if path.is_dir() {
-        let files = format!("it is a folder; {} names the files in it", path.join("*").display());
+        let files = format!("it is a folder; {} names its checkpoints", path.join("*.checkpoint*").display());
         return Err(Fault::of(path, Failure::Unreadable(files)));
     }
     let tally = names::tally_of(path);
@@ -55,7 +56,7 @@ fn checked(path: &Path) -> Result<Pair, Fault> {
     }
     let pair = Pair::read(path)?;
     let step = pair.checkpoint.step();
-    match names::step_in(path) {
+    match names::step_in(&whole::behind(path)) {
         Some(digits) if digits.parse() != Ok(step) => {
             Err(Fault::of(path, Failure::Refused(format!("the name says step {digits}, and the file step {step}"))))
         }
@@ -91,21 +92,25 @@ impl Counts {
         } += 1;
     }
 
+    fn all(&self) -> usize {
+        self.fit + self.untallied + self.wrong
+    }
+
     fn judged(&self, told: Result<(), Failure>) -> Result<(), Failure> {
+        let are = if self.wrong == 1 { "is" } else { "are" };
         match self.wrong {
             0 => told,
-            wrong => Err(Failure::Refused(counted(wrong, "checkpoint is wrong", "checkpoints are wrong")).beside(told)),
+            wrong => Err(Failure::Refused(format!("{wrong} of {} {are} wrong", self.all())).beside(told)),
         }
     }
 }
 
 impl fmt::Display for Counts {
     fn fmt(&self, out: &mut fmt::Formatter) -> fmt::Result {
-        let all = counted(self.fit + self.untallied + self.wrong, "checkpoint", "checkpoints");
         let fit = counted(self.fit, "fits its tally", "fit their tallies");
         let untallied = counted(self.untallied, "has none", "have none");
         let wrong = counted(self.wrong, "is wrong", "are wrong");
-        write!(out, "{all}: {fit}, {untallied}, {wrong}")
+        write!(out, "{} checked: {fit}, {untallied}, {wrong}", self.all())
     }
 }
 

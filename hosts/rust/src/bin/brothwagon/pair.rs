@@ -22,17 +22,27 @@ pub struct Fault {
 impl Pair {
     /// Reads a checkpoint, and its tally if there is one, to which the state is held.
     pub fn read(path: &Path) -> Result<Pair, Fault> {
-        if let Some(checkpoint) = path.to_str().and_then(names::tallied) {
+        // Where a run is replacing the pair, the first look may meet one old file and one new.
+        Pair::look(path).or_else(|_| Pair::look(path))
+    }
+
+    fn look(path: &Path) -> Result<Pair, Fault> {
+        let [file, beside] = both(path);
+        if let Some(checkpoint) = file.to_str().and_then(names::tallied) {
             let why = format!("this is a tally's name; that of its checkpoint is {checkpoint}");
             return Err(Fault::of(path, Failure::Unreadable(why)));
         }
-        let beside = names::tally_of(path);
         let checkpoint = read::checkpoint(path).map_err(|why| Fault::of(path, why))?;
         let tally = read::tally(&beside).map_err(|why| Fault::of(&beside, why))?;
         if let Some(tally) = &tally {
             fits(&checkpoint, tally, &beside).map_err(|why| Fault::of(path, why))?;
         }
         Ok(Pair { checkpoint, tallied: tally.is_some() })
+    }
+
+    /// What an answer says of the tally.
+    pub fn tally(&self) -> &'static str {
+        if self.tallied { "fits" } else { "none" }
     }
 }
 
@@ -64,21 +74,24 @@ fn fits(checkpoint: &Checkpoint, tally: &Tally, beside: &Path) -> Result<(), Fai
 /// Puts a checkpoint and its tally under their names, in place of those that were there. If that fails, or the process is killed,
 /// a checkpoint may be left without its tally, and never with another's.
 pub fn write(path: &Path, checkpoint: &[u8], tally: &[u8]) -> Result<(), Failure> {
-    let beside = names::tally_of(path);
-    let (unsaved, untallied) = (|why| Failure::unsaved(path, why), |why| Failure::unsaved(&beside, why));
+    let [path, beside] = &both(path);
+    let (unsaved, untallied) = (|why| Failure::unsaved(path, why), |why| Failure::unsaved(beside, why));
     let checkpoint = Written::new(path, checkpoint).map_err(unsaved)?;
-    let tally = Written::new(&beside, tally).map_err(untallied)?;
-    // Where the checkpoint's name is a link, the file that it leads to may have a tally of its own.
-    for old in [&tally.target, &names::tally_of(&checkpoint.target)] {
-        whole::remove(old).map_err(untallied)?;
-    }
+    let tally = Written::new(beside, tally).map_err(untallied)?;
+    whole::remove(beside).map_err(untallied)?;
     checkpoint.rename().map_err(unsaved)?;
     tally.rename().map_err(untallied)
 }
 
 /// Whether a checkpoint and its tally can be put under their names.
 pub fn test(path: &Path) -> Result<(), Failure> {
-    let test = |path: &Path| whole::test(path).map_err(|why| Failure::unsaved(path, why));
-    test(path)?;
-    test(&names::tally_of(path))
+    both(path).iter().try_for_each(|path| whole::test(path).map_err(|why| Failure::unsaved(path, why)))
+}
+
+/// The files of a checkpoint and of its tally. Where a name is a link, both are those that it leads to, so that a file has one
+/// tally by whatever name.
+fn both(path: &Path) -> [PathBuf; 2] {
+    let file = whole::behind(path);
+    let beside = names::tally_of(&file);
+    [file, beside]
 }

@@ -43,7 +43,7 @@ impl Progress {
 
 /// How far a check is.
 pub struct Checking {
-    checkpoints: usize,
+    all: usize,
     began: Instant,
     done: usize,
     bytes: u64,
@@ -51,14 +51,18 @@ pub struct Checking {
 }
 
 impl Checking {
-    pub fn of(checkpoints: usize) -> Checking {
-        Checking { checkpoints, began: Instant::now(), done: 0, bytes: 0, line: Line::new() }
+    pub fn of(all: usize) -> Checking {
+        Checking { all, began: Instant::now(), done: 0, bytes: 0, line: Line::new() }
     }
 
     /// Shows how far the check is.
     pub fn show(&self) {
-        let rate = self.bytes as f64 / 1e6 / self.began.elapsed().as_secs_f64();
-        self.line.show(format_args!("{} of {} checkpoints, {rate:.1} MB a second", self.done, self.checkpoints));
+        self.line.show(self.said(self.began.elapsed().as_secs_f64()));
+    }
+
+    /// How far it is after so many seconds.
+    fn said(&self, seconds: f64) -> String {
+        format!("{} of {} checked, {:.1} MB a second", self.done, self.all, self.bytes as f64 / 1e6 / seconds)
     }
 
     /// Counts a file of so many bytes, and takes the line away: one of the answer may follow.
@@ -92,5 +96,18 @@ impl Drop for Line {
     /// Takes the line away, also before a failure is said.
     fn drop(&mut self) {
         self.show("");
+    }
+}
+
+#[cfg(test)]
+mod tests {
+    use super::*;
+
+    #[test]
+    fn a_check_says_how_far_it_is() {
+        let mut checking = Checking::of(12);
+        checking.add(100_000_000);
+        checking.add(50_000_000);
+        assert_eq!(checking.said(1.5), "2 of 12 checked, 100.0 MB a second");
     }
 }

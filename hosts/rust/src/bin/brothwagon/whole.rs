@@ -7,22 +7,21 @@ use std::path::{MAIN_SEPARATOR, Path, PathBuf};
 
 /// A file that is whole on the disk, and has yet to take its name from the one that was there. Until then, or if the process is
 /// killed, the name still has what it had.
-pub struct Written {
+pub struct Written<'a> {
     draft: Draft,
-    pub target: PathBuf,
+    name: &'a Path,
 }
 
-impl Written {
-    pub fn new(path: &Path, bytes: &[u8]) -> io::Result<Written> {
-        let target = resolved(path)?;
-        let mut draft = Draft::in_folder(folder(&target))?;
+impl Written<'_> {
+    pub fn new<'a>(name: &'a Path, bytes: &[u8]) -> io::Result<Written<'a>> {
+        let mut draft = Draft::beside(name)?;
         draft.file.write_all(bytes)?;
         draft.file.sync_all()?;
-        Ok(Written { draft, target })
+        Ok(Written { draft, name })
     }
 
     pub fn rename(self) -> io::Result<()> {
-        self.draft.rename(&self.target)
+        self.draft.rename(self.name)
     }
 }
 
@@ -37,8 +36,8 @@ pub fn remove(path: &Path) -> io::Result<()> {
 }
 
 /// Whether a file can be put under that name: makes a draft there, and removes it.
-pub fn test(path: &Path) -> io::Result<()> {
-    Draft::in_folder(folder(&resolved(path)?)).map(drop)
+pub fn test(name: &Path) -> io::Result<()> {
+    Draft::beside(name).map(drop)
 }
 
 /// Whether files can be put into that folder.
@@ -46,16 +45,24 @@ pub fn test_folder(path: &Path) -> io::Result<()> {
     Draft::in_folder(path).map(drop)
 }
 
-/// The file to be replaced: where a link leads. A folder or a device must not be, nor what someone made read-only.
-fn resolved(path: &Path) -> io::Result<PathBuf> {
-    match fs::metadata(path) {
+/// The file that a name stands for: where it leads, if it is a link.
+pub fn behind(name: &Path) -> PathBuf {
+    let led = if name.is_symlink() { fs::canonicalize(name).ok() } else { None };
+    led.unwrap_or_else(|| name.to_path_buf())
+}
+
+/// Whether a file may take that name, from another or from a link. A folder or a device must not give way, nor what someone made
+/// read-only.
+fn may_take(name: &Path) -> io::Result<()> {
+    match fs::symlink_metadata(name) {
         Ok(there) if there.is_dir() => Err(ErrorKind::IsADirectory.into()),
+        Ok(there) if there.is_symlink() => Ok(()),
         Ok(there) if !there.is_file() => Err(io::Error::other("it is no plain file")),
         Ok(there) if there.permissions().readonly() => Err(io::Error::other("it is read-only")),
-        Ok(_) => fs::canonicalize(path),
+        Ok(_) => Ok(()),
         Err(why) if why.kind() != ErrorKind::NotFound => Err(why),
-        Err(_) if path.to_string_lossy().ends_with(MAIN_SEPARATOR) => Err(ErrorKind::IsADirectory.into()),
-        Err(_) => Ok(path.to_path_buf()),
+        Err(_) if name.to_string_lossy().ends_with(MAIN_SEPARATOR) => Err(ErrorKind::IsADirectory.into()),
+        Err(_) => Ok(()),
     }
 }
 
@@ -75,6 +82,12 @@ struct Draft {
 }
 
 impl Draft {
+    /// One that may take that name.
+    fn beside(name: &Path) -> io::Result<Draft> {
+        may_take(name)?;
+        Draft::in_folder(folder(name))
+    }
+
     fn in_folder(name: &Path) -> io::Result<Draft> {
         let folder = File::open(name)?;
         let mut number = 0;
