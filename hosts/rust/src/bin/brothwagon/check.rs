@@ -66,9 +66,9 @@ fn checked(path: &Path) -> Result<Pair, Fault> {
 
 fn tell(out: &mut impl Write, path: &str, checked: &Result<Pair, Fault>) -> io::Result<()> {
     match checked {
-        Ok(Pair { checkpoint, tallied }) => {
+        Ok(Pair { checkpoint, tally }) => {
             let ((nx, ny), step) = (checkpoint.sides(), checkpoint.step());
-            let tally = if *tallied { "fits its tally" } else { "no tally" };
+            let tally = if tally.is_some() { "fits its tally" } else { "no tally" };
             writeln!(out, "{path}: {tally}, {nx} by {ny}, step {step}")
         }
         Err(Fault { file, why }) => writeln!(out, "{}: WRONG: {why}", file.display()),
@@ -86,8 +86,8 @@ struct Counts {
 impl Counts {
     fn add(&mut self, checked: &Result<Pair, Fault>) {
         *match checked {
-            Ok(Pair { tallied: true, .. }) => &mut self.fit,
-            Ok(Pair { tallied: false, .. }) => &mut self.untallied,
+            Ok(Pair { tally: Some(_), .. }) => &mut self.fit,
+            Ok(Pair { tally: None, .. }) => &mut self.untallied,
             Err(_) => &mut self.wrong,
         } += 1;
     }

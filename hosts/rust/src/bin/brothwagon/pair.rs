@@ -6,11 +6,10 @@ use crate::{names, read};
 use brothwagon::{Checkpoint, Tally};
 use std::path::{Path, PathBuf};
 
-/// A checkpoint that was read and is not wrong.
+/// A checkpoint that was read, and the tally beside it if there is one.
 pub struct Pair {
     pub checkpoint: Checkpoint,
-    /// Whether there is a tally; if so, the state fits it.
-    pub tallied: bool,
+    pub tally: Option<Tally>,
 }
 
 /// The file of a pair that is wrong, and why.
@@ -22,27 +21,41 @@ pub struct Fault {
 impl Pair {
     /// Reads a checkpoint, and its tally if there is one, to which the state is held.
     pub fn read(path: &Path) -> Result<Pair, Fault> {
-        // Where a run is replacing the pair, the first look may meet one old file and one new.
-        Pair::look(path).or_else(|_| Pair::look(path))
-    }
-
-    fn look(path: &Path) -> Result<Pair, Fault> {
         let [file, beside] = both(path);
         if let Some(checkpoint) = file.to_str().and_then(names::tallied) {
             let why = format!("this is a tally's name; that of its checkpoint is {checkpoint}");
             return Err(Fault::of(path, Failure::Unreadable(why)));
         }
+        let look = || Pair::look(path, &beside);
+        let held = |pair: Pair| pair.held(&beside).map_err(|why| Fault::of(path, why));
+        // Where a run is replacing the pair, the first look may meet one old file and one new.
+        held(look()?).or_else(|_| look().and_then(held))
+    }
+
+    fn look(path: &Path, beside: &Path) -> Result<Pair, Fault> {
         let checkpoint = read::checkpoint(path).map_err(|why| Fault::of(path, why))?;
-        let tally = read::tally(&beside).map_err(|why| Fault::of(&beside, why))?;
-        if let Some(tally) = &tally {
-            fits(&checkpoint, tally, &beside).map_err(|why| Fault::of(path, why))?;
-        }
-        Ok(Pair { checkpoint, tallied: tally.is_some() })
+        let tally = read::tally(beside).map_err(|why| Fault::of(beside, why))?;
+        Ok(Pair { checkpoint, tally })
+    }
+
+    /// The pair, if the state fits the tally.
+    fn held(self, beside: &Path) -> Result<Pair, Failure> {
+        let Some(tally) = self.tally else { return Ok(self) };
+        let differ = match &tally.differing_planes(&self.checkpoint.tally()?)[..] {
+            [] => return Ok(self),
+            [plane] => format!("plane {plane} differs"),
+            planes if planes.len() == 9 => "all planes differ".to_string(),
+            [planes @ .., last] => {
+                let planes: Vec<String> = planes.iter().map(usize::to_string).collect();
+                format!("planes {} and {last} differ", planes.join(", "))
+            }
+        };
+        Err(Failure::Refused(format!("the state does not fit {}: {differ}", beside.display())))
     }
 
     /// What an answer says of the tally.
-    pub fn tally(&self) -> &'static str {
-        if self.tallied { "fits" } else { "none" }
+    pub fn said(&self) -> &'static str {
+        if self.tally.is_some() { "fits" } else { "none" }
     }
 }
 
@@ -56,19 +69,6 @@ impl From<Fault> for Failure {
     fn from(Fault { file, why }: Fault) -> Failure {
         why.about(file.display())
     }
-}
-
-fn fits(checkpoint: &Checkpoint, tally: &Tally, beside: &Path) -> Result<(), Failure> {
-    let differ = match &tally.differing_planes(&checkpoint.tally()?)[..] {
-        [] => return Ok(()),
-        [plane] => format!("plane {plane} differs"),
-        planes if planes.len() == 9 => "all planes differ".to_string(),
-        [planes @ .., last] => {
-            let planes: Vec<String> = planes.iter().map(usize::to_string).collect();
-            format!("planes {} and {last} differ", planes.join(", "))
-        }
-    };
-    Err(Failure::Refused(format!("the state does not fit {}: {differ}", beside.display())))
 }
 
 /// Puts a checkpoint and its tally under their names, in place of those that were there. If that fails, or the process is killed,

@@ -9,7 +9,7 @@ use std::io::Write;
 
 pub fn show(path: &str, out: &mut impl Write) -> Result<(), Failure> {
     let pair = Pair::read(path.as_ref())?;
-    let (tally, checkpoint) = (pair.tally(), pair.checkpoint);
+    let (tally, checkpoint) = (pair.said(), pair.checkpoint);
     let (nx, ny) = checkpoint.sides();
     let step = checkpoint.step();
     // A checkpoint has no settings but its sides: of the others, the density asks for none and the velocity for the force.

@@ -29,7 +29,7 @@ impl Start {
             None => (file.started().map_err(Failure::from), None),
             Some(path) => {
                 let pair = Pair::read(path.as_ref())?;
-                let from = From { step: pair.checkpoint.step(), tally: pair.tally() };
+                let from = From { step: pair.checkpoint.step(), tally: pair.said() };
                 (loaded(&file, pair.checkpoint, path), Some(from))
             }
         };
