@@ -261,6 +261,20 @@ fn what_cannot_be_read_is_wrong_and_what_is_not_understood_is_said() {
     assert_eq!(failed("check --all").0, Some(2));
 }
 
+#[test]
+fn a_link_is_held_to_the_step_of_the_file_that_it_leads_to() {
+    let made = folder("latest");
+    for (step, name) in [(STEP, "fits its tally"), (STEP + 1, "WRONG: the name says step 351, and the file step 350")] {
+        let file = format!("{made}/step-{step}.checkpoint");
+        pair(&file, &entries());
+        let link = format!("{made}/latest-{step}");
+        symlink(path(&file), path(&link)).unwrap();
+        let (status, said, _) = check(std::slice::from_ref(&link));
+        assert_eq!(status, Some(i32::from(step != STEP)), "{said}");
+        assert!(said.starts_with(&format!("{}: {name}", path(&link))), "{said}");
+    }
+}
+
 /// The end of a check of these files with its answer going there.
 fn answering(files: &[&String], to: impl Into<Stdio>) -> (Option<i32>, String) {
     let mut command = Command::new(env!("CARGO_BIN_EXE_brothwagon"));

@@ -26,10 +26,15 @@ impl Pair {
             let why = format!("this is a tally's name; that of its checkpoint is {checkpoint}");
             return Err(Fault::of(path, Failure::Unreadable(why)));
         }
-        let look = || Pair::look(path, &beside);
-        let held = |pair: Pair| pair.held(&beside).map_err(|why| Fault::of(path, why));
-        // Where a run is replacing the pair, the first look may meet one old file and one new.
-        held(look()?).or_else(|_| look().and_then(held))
+        Pair::seen(path, &beside, || Pair::look(path, &beside))
+    }
+
+    /// The pair that a look finds, if the state fits the tally, or that a second one finds: where a run is replacing the pair, the
+    /// first may meet one old file and one new. What cannot be read is not read again, for a pipe would be empty by then.
+    fn seen(path: &Path, beside: &Path, mut look: impl FnMut() -> Result<Pair, Fault>) -> Result<Pair, Fault> {
+        let held = |pair: Pair| pair.held(beside).map_err(|why| Fault::of(path, why));
+        let first = look()?;
+        held(first).or_else(|_| look().and_then(held))
     }
 
     fn look(path: &Path, beside: &Path) -> Result<Pair, Fault> {
@@ -94,4 +99,30 @@ fn both(path: &Path) -> [PathBuf; 2] {
     let file = whole::behind(path);
     let beside = names::tally_of(&file);
     [file, beside]
+}
+
+#[cfg(test)]
+mod tests {
+    use super::*;
+
+    /// What is seen of a state beside these tallies of others, one at each look; none for a look that finds nothing to read.
+    fn seen(beside: &[Option<f64>]) -> (bool, usize) {
+        let state = |entry| Checkpoint::new(1, 1, 0, vec![entry; 9]).unwrap();
+        let mut looks = 0;
+        let pair = Pair::seen(Path::new("a"), Path::new("a.tally"), || {
+            looks += 1;
+            let other = beside[looks - 1].ok_or_else(|| Fault::of(Path::new("a"), Failure::unreadable("gone")))?;
+            Ok(Pair { checkpoint: state(1.0), tally: Some(state(other).tally().unwrap()) })
+        });
+        (pair.is_ok(), looks)
+    }
+
+    #[test]
+    fn a_state_that_does_not_fit_is_looked_at_once_more() {
+        assert_eq!(seen(&[Some(1.0)]), (true, 1));
+        assert_eq!(seen(&[Some(2.0), Some(1.0)]), (true, 2));
+        assert_eq!(seen(&[Some(2.0), Some(2.0)]), (false, 2));
+        assert_eq!(seen(&[Some(2.0), None]), (false, 2));
+        assert_eq!(seen(&[None]), (false, 1));
+    }
 }
