@@ -193,7 +193,8 @@ fn show_says_whether_there_is_a_tally() {
     fs::remove_file(path(&format!("{file}.tally"))).unwrap();
     assert_eq!(value(&out(&format!("show {file}")), "tally"), "none");
     let two = study("said", "sides 2 1\nviscosity 0.1\nsteps 5\n");
-    assert_eq!(value(&out(&format!("run {two} --from {file}")), "to step"), "355");
+    let said = out(&format!("run {two} --from {file}"));
+    assert_eq!((value(&said, "from tally"), value(&said, "to step")), ("none", "355"));
     // A name that leaves no room for .tally.
     let long = format!("{made}/{}", "a".repeat(250));
     put(&long, &document::checkpoint(2, 1, STEP, &entries()));
