@@ -15,13 +15,15 @@
  *   10  the tolerance is NaN, or there are more than 1,000,000 steps
  *   12  a file has fewer than five bytes, so no version
  *   13  a file's version is not 1
- *   14  a file is cut short before the end of its sides
+ *   14  a checkpoint file is cut short before the end of its sides
  *   15  a file's count, or its actual length, is wrong
  *   16  a list of obstacles does not ascend strictly by x + y nx
+ *   17  the sums of a tally's nine planes do not wrap to its first number
  *
- * They are tested in the order 1, 2, 3, 4, 5, 10, 6, 16, 7, 8, and of a file that is read in the order 12, 13, 14, 1, 15, 2;
- * the first that applies is answered. Each function below lists the ones that it tests; no other is answered. A refused call
- * (any number but 0, and 9 apart) writes to no lent buffer, and leaves zeros in its small answer array, which every call writes.
+ * They are tested in the order 1, 2, 3, 4, 5, 10, 6, 16, 7, 8, and of a file that is read, or a tally that is written, in the
+ * order 12, 13, 14, 1, 15, 17, 2; the first that applies is answered. Each function below lists the ones that it tests; no
+ * other is answered. A refused call (any number but 0, and 9 apart) writes to no lent buffer, nor to a tally that it would
+ * change, and leaves zeros in its small answer array, which every call writes.
  *
  * Buffers. Entry (x, y, i) of the populations f and of the post-collision buffer stands at x + y nx + i nx ny: each has
  * 9 nx ny entries. A velocity buffer has 2 nx ny, a cell's two components at 2 (x + y nx). An initial table has 3 nx ny, a
@@ -32,6 +34,12 @@
  * nx and ny, two bytes each; the step number, four; then the 64 bits of every entry of f, eight bytes each, in the buffer's
  * order. So it has 13 + 72 nx ny bytes, and a state has one file: accepted files with equal sides, step and entries are equal
  * bytes.
+ *
+ * A tally. Ten numbers, {all, plane 0, .., plane 8}: the sum of the 64-bit patterns of all entries of f, and that of each
+ * direction's, wrapping at 64 bits; so the nine wrap to the first. Streaming with faces that are lossless keeps the first: the
+ * next f has that of post. A tally does not cover the sides or the step number. Its file has 85 bytes, and is big-endian too:
+ * four bytes that count all that follow, 81; one byte, the version 1; then the ten numbers, eight bytes each. The checkpoint of
+ * one cell begins with the same five bytes and is as long, so a file does not say which of the two it is.
  *
  * What the caller sees to. No pointer is NULL, not even beside a length of 0; each is to 8-byte aligned memory, but for a
  * file's, and nothing that is lent (settings and answers too) overlaps. The caller's floating-point mode is the usual one:
@@ -177,6 +185,24 @@ uint32_t brothwagon_checkpoint_sides(const uint8_t *file, size_t file_length, ui
 /* Reads a checkpoint file into f, which has 9 nx ny entries by the file's sides: answer is {nx, ny, step}.
  * Numbers 12, 13, 14, 1, 15, 2; then f is as it was and answer is {0, 0, 0}. */
 uint32_t brothwagon_read_checkpoint(const uint8_t *file, size_t file_length, double *f, size_t f_length, uint64_t answer[3]);
+
+/* The tally of f.
+ * Numbers 1, 2; then tally is ten zeros. */
+uint32_t brothwagon_tally(const brothwagon_settings *settings, const double *f, size_t f_length, uint64_t tally[10]);
+
+/* Writes one entry of f, and moves the first number of tally and that of the entry's plane by the new pattern less the old,
+ * wrapping. So what was the tally of f is that of the f that is left; any other ten numbers move in the same way.
+ * Numbers 1, 2, 6; then f and tally are as they were. */
+uint32_t brothwagon_write_entry(const brothwagon_settings *settings, size_t x, size_t y, size_t direction, uint64_t pattern,
+                                double *f, size_t f_length, uint64_t tally[10]);
+
+/* Writes the file of a tally into file, which has 85 bytes.
+ * Numbers 17, 2; then file is as it was. */
+uint32_t brothwagon_write_tally(const uint64_t tally[10], uint8_t *file, size_t file_length);
+
+/* Reads the file of a tally into tally, which has ten numbers.
+ * Numbers 12, 13, 15, 17, 2; then tally is as it was. */
+uint32_t brothwagon_read_tally(const uint8_t *file, size_t file_length, uint64_t *tally, size_t tally_length);
 
 #ifdef __cplusplus
 }

@@ -7,6 +7,7 @@ mod picture;
 mod runner;
 mod study;
 mod table;
+mod tally;
 mod worker;
 
 use checkpoint::Checkpoint;
@@ -22,12 +23,12 @@ use std::thread::available_parallelism;
 use std::time::Duration;
 use study::{KINDS, Study};
 use table::{Line, Report};
+use tally::Tallied;
 
 const HELP: &str = "\
 bench/run [SOURCE] [--quick] [--seconds S] [--sides N,..] [--kinds KIND,..] [--densities N,..] [--machine NAME] [--svg FILE]
           [--page FILE]
-bench/run [SOURCE] --checkpoints [--quick] [--machine NAME]
-bench/run [SOURCE] --obstacles [--quick] [--machine NAME]
+bench/run [SOURCE] --checkpoints|--tallies|--obstacles.. [--quick] [--machine NAME]
 
 Times the port against the Rust of SOURCE (../shared/docs/src by default), built for release: closed boxes of 240, 256, 512
 and 1024 cells a side, from a start at density 1 and one at density 10, with Trt (magic number 3/16), Bgk and Mrt, each
@@ -45,14 +46,18 @@ Then, or alone (--checkpoints), come checkpoint files of 1024 by 1024 cells: on 
 of a file's bytes, and how many times as long it takes to write and to read one, again by the shortest of the turns. What is
 written and read must be as the format has it, byte for byte.
 
+Then, or alone (--tallies), come tallies of 1024 by 1024 cells: on each level, the milliseconds of a plain read of the
+populations, how many times as long it takes to tally them, and the nanoseconds of a call that writes one entry, in places
+all over the grid. The tally must be as the request has it.
+
 Last, or alone (--obstacles), come obstacles in a closed box of 256 by 256 cells with Trt: on each level, the milliseconds of
 a step of `run` without obstacles, and how many times as long a step takes by a call of its own, alone and with a call for the
 obstacles after it: in one cell, and in a square of a hundredth of all cells; by the shortest of five times as many turns.
 Each must end like the Rust, bit for bit.
 
---sides, --kinds (trt, bgk, mrt) and --densities narrow the table. --svg draws it; --page puts it and the checkpoints, in
-Markdown, between the lines `<!-- measured -->` and `<!-- end of measured -->` of FILE. --machine is the name that both give
-the machine. Exit status: 0 done, 1 the ends differ or a worker failed, 2 the words are not understood.";
+--sides, --kinds (trt, bgk, mrt) and --densities narrow the table. --svg draws it; --page puts it, the checkpoints and the
+tallies, in Markdown, between the lines `<!-- measured -->` and `<!-- end of measured -->` of FILE. --machine is the name
+that both give the machine. Exit status: 0 done, 1 the ends differ or a worker failed, 2 the words are not understood.";
 
 const FROM: &str = "<!-- measured -->\n";
 const TO: &str = "<!-- end of measured -->\n";
@@ -67,16 +72,26 @@ struct Plan {
     machine: String,
     svg: Option<PathBuf>,
     page: Option<PathBuf>,
-    /// The checkpoint files alone.
-    checkpoints: bool,
-    /// The obstacles alone.
-    obstacles: bool,
+    /// What is timed alone; all if there is nothing.
+    alone: Vec<Part>,
+}
+
+/// What can be timed alone.
+#[derive(PartialEq)]
+enum Part {
+    Checkpoints,
+    Tallies,
+    Obstacles,
 }
 
 impl Plan {
     /// Whether all is timed.
     fn whole(&self) -> bool {
-        !self.checkpoints && !self.obstacles
+        self.alone.is_empty()
+    }
+
+    fn has(&self, part: Part) -> bool {
+        self.whole() || self.alone.contains(&part)
     }
 }
 
@@ -85,6 +100,7 @@ fn main() -> ExitCode {
     let words: Vec<&str> = words.iter().map(String::as_str).collect();
     let ended = match words[..] {
         ["--worker", "checkpoint"] => by_level::work(Checkpoint::new()),
+        ["--worker", "tally"] => by_level::work(Tallied::new()),
         ["--worker", "obstacles"] => by_level::work(Obstacles::new()),
         ["--worker", role] => worker::work(role),
         ["--help"] => {
@@ -118,16 +134,16 @@ fn plan(words: &[&str]) -> Option<Plan> {
         machine: machine(),
         svg: None,
         page: None,
-        checkpoints: false,
-        obstacles: false,
+        alone: Vec::new(),
     };
     let mut words = words.iter();
     while let Some(&word) = words.next() {
         let mut value = || words.next().copied();
         match word {
             "--quick" => (plan.seconds, plan.turns) = (0.3, 3),
-            "--checkpoints" => plan.checkpoints = true,
-            "--obstacles" => plan.obstacles = true,
+            "--checkpoints" => plan.alone.push(Part::Checkpoints),
+            "--tallies" => plan.alone.push(Part::Tallies),
+            "--obstacles" => plan.alone.push(Part::Obstacles),
             "--seconds" => plan.seconds = value()?.parse().ok().filter(|&seconds| seconds > 0.0)?,
             "--sides" => plan.sides = each(value()?, |side| side.parse().ok())?,
             "--kinds" => plan.kinds = each(value()?, |kind| KINDS.iter().position(|&(word, _)| word == kind))?,
@@ -169,12 +185,17 @@ fn bench(plan: &Plan) -> io::Result<()> {
     println!("{}", plan.machine);
     let report = if plan.whole() { Some(steps(plan)?) } else { None };
     let mut tables: Vec<String> = report.iter().map(Report::markdown).collect();
-    if plan.whole() || plan.checkpoints {
+    if plan.has(Part::Checkpoints) {
         let rows = checkpoint::table(plan.turns)?;
         println!("{}every file is as the format has it, byte for byte", by_level::text(&rows));
         tables.push(by_level::markdown(&rows));
     }
-    if plan.whole() || plan.obstacles {
+    if plan.has(Part::Tallies) {
+        let rows = tally::table(plan.turns)?;
+        println!("{}every tally is as the request has it", by_level::text(&rows));
+        tables.push(by_level::markdown(&rows));
+    }
+    if plan.has(Part::Obstacles) {
         let rows = obstacles::table(plan.turns)?;
         println!("{}all end like the Rust, bit for bit", by_level::text(&rows));
     }

@@ -19,7 +19,7 @@ pub struct Runner {
 }
 
 impl Runner {
-    /// Starts the program at `path` as a worker: `role` is rust, port, copy, checkpoint or obstacles, `level` that of the port.
+    /// Starts the program at `path` as a worker: `role` is rust, port, copy, checkpoint, tally or obstacles, `level` that of the port.
     pub fn start(path: &Path, name: &str, role: &str, level: Option<&str>) -> io::Result<Runner> {
         let mut command = Command::new(path);
         command.args(["--worker", role]).stdin(Stdio::piped()).stdout(Stdio::piped());

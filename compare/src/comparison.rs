@@ -61,11 +61,12 @@ impl Comparison {
         Ok(Seen { number: wanted.number, entries })
     }
 
-    /// The patterns that a lent buffer holds before the call.
-    pub fn lent(case: &Case, buffer: usize) -> Vec<u64> {
+    /// What a lent buffer holds before the call.
+    pub fn lent(case: &Case, buffer: usize) -> Vec<f64> {
         let mut filled = Vec::new();
         case.fill(buffer, &mut filled);
-        filled.iter().take(case.length(buffer)).map(|entry| entry.to_bits()).collect()
+        filled.truncate(case.length(buffer));
+        filled
     }
 
     /// A buffer and the guard behind it are as expected.

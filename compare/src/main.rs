@@ -9,21 +9,26 @@ mod expected;
 mod levels;
 mod made;
 mod progress;
+mod questions;
 mod random;
 mod rules;
 mod shrink;
 mod studies;
+mod tallies;
 
 use case::{BUFFERS, Case, OPERATIONS};
+use checkpoints::CHECKPOINTS;
 use comparison::{Comparison, Difference};
 use progress::Progress;
+use questions::shown;
 use source::levels::{as_asked, level};
 use std::env;
 use std::process::ExitCode;
+use tallies::TALLIES;
 
 const HELP: &str = "\
 compare/run [SOURCE] [--cases N] [--seed N] [--quick] [--only PLACE]
-compare/run [SOURCE] --checkpoints [--cases N] [--seed N] [--quick] [--only PLACE]
+compare/run [SOURCE] --checkpoints|--tallies [--cases N] [--seed N] [--quick] [--only PLACE]
 compare/run [SOURCE] --studies [--whole]
 compare/run [SOURCE] --differences
 compare/run [SOURCE] .. --levels
@@ -39,6 +44,12 @@ with a reading of the format's own words. It is given every prefix of two small 
 entries, and sides and lengths about their limits; then it writes N made-up states and reads them back, and reads N files
 that are spoiled. The number, the answer and all that is lent are compared. With --checkpoints, --only picks one of these.
 
+Then, or alone (--tallies), come tallies, compared in the same way. The library is given every small grid, every place of
+one, every value of each byte of a tally file, and sides and lengths about their limits; then 2 N made-up questions, a fifth
+of each kind: it tallies populations; it writes entries one after the other, and the tally is worked out afresh after each;
+it streams with faces, which keeps the sum on a lossless grid; it writes tally files, and it reads spoiled ones. With
+--tallies, --only picks one of these.
+
 --studies runs each study of the repository for 20 steps instead, or for all its steps (--whole), prints the fingerprint
 that the Rust gives it, and ends with status 1 where the library gives another, or where a study is not physical: a speed of
 0.3 or more, a number that is not finite, or a mass that drifts without inlet or outlet. --differences asks both what
@@ -53,13 +64,19 @@ struct Plan {
     seed: u64,
     cases: u64,
     only: Option<u64>,
-    /// The checkpoint files alone.
-    checkpoints: bool,
+    /// What is compared alone, if anything is.
+    alone: Option<Alone>,
+}
+
+/// What can be compared alone.
+enum Alone {
+    Checkpoints,
+    Tallies,
 }
 
 /// What has been compared.
 #[derive(Default)]
-struct Tally {
+struct Counts {
     cases: u64,
     entries: u64,
     by_operation: [u64; OPERATIONS.len()],
@@ -90,22 +107,21 @@ fn main() -> ExitCode {
         println!("{HELP}");
         return if words == ["--help"] { ExitCode::SUCCESS } else { ExitCode::from(2) };
     };
-    // One case is compared without what comes before the cases.
-    let whole = plan.only.is_none();
-    if (plan.checkpoints || whole) && !checkpoints::compare(&plan) {
-        return ExitCode::FAILURE;
-    }
-    if plan.checkpoints {
-        return ExitCode::SUCCESS;
-    }
-    made_up(&plan)
+    let alike = match plan.alone {
+        Some(Alone::Checkpoints) => CHECKPOINTS.compare(&plan),
+        Some(Alone::Tallies) => TALLIES.compare(&plan),
+        // One case is compared without what comes before the cases.
+        None if plan.only.is_some() => made_up(&plan),
+        None => CHECKPOINTS.compare(&plan) && TALLIES.compare(&plan) && made_up(&plan),
+    };
+    if alike { ExitCode::SUCCESS } else { ExitCode::FAILURE }
 }
 
-/// Compares the made-up cases of a plan.
-fn made_up(plan: &Plan) -> ExitCode {
+/// Compares the made-up cases of a plan; answers whether all were alike, and met all that there is to meet.
+fn made_up(plan: &Plan) -> bool {
     let mut comparison = Comparison::default();
     let places = plan.only.map_or(0..plan.cases, |only| only..only + 1);
-    let mut tally = Tally::default();
+    let mut counts = Counts::default();
     let mut progress = Progress::new();
     for place in places {
         let case = random::case(plan.seed, place);
@@ -114,24 +130,24 @@ fn made_up(plan: &Plan) -> ExitCode {
         }
         match comparison.compare(&case) {
             Ok(seen) => {
-                tally.cases += 1;
-                tally.entries += seen.entries;
-                tally.by_operation[case.operation as usize] += 1;
-                tally.by_number[seen.number as usize] += 1;
+                counts.cases += 1;
+                counts.entries += seen.entries;
+                counts.by_operation[case.operation as usize] += 1;
+                counts.by_number[seen.number as usize] += 1;
             }
             Err(difference) => {
                 differs(&mut comparison, plan, place, case, difference);
-                return ExitCode::FAILURE;
+                return false;
             }
         }
-        progress.show(|| format!("{} cases, {} entries", tally.cases, tally.entries));
+        progress.show(|| format!("{} cases, {} entries", counts.cases, counts.entries));
     }
-    report(plan, &tally, &comparison);
-    reached_all(&tally, &comparison)
+    report(plan, &counts, &comparison);
+    reached_all(&counts, &comparison)
 }
 
 fn plan(words: &[&str]) -> Option<Plan> {
-    let mut plan = Plan { seed: 1, cases: 1_000_000, only: None, checkpoints: false };
+    let mut plan = Plan { seed: 1, cases: 1_000_000, only: None, alone: None };
     let mut words = words.iter();
     while let Some(word) = words.next() {
         let mut number = || words.next()?.parse().ok();
@@ -140,7 +156,8 @@ fn plan(words: &[&str]) -> Option<Plan> {
             "--cases" => plan.cases = number()?,
             "--only" => plan.only = Some(number()?),
             "--quick" => plan.cases = 100_000,
-            "--checkpoints" => plan.checkpoints = true,
+            "--checkpoints" if plan.alone.is_none() => plan.alone = Some(Alone::Checkpoints),
+            "--tallies" if plan.alone.is_none() => plan.alone = Some(Alone::Tallies),
             _ => return None,
         }
     }
@@ -153,40 +170,36 @@ fn differs(comparison: &mut Comparison, plan: &Plan, place: u64, case: Case, dif
     let (case, difference) = shrink::smallest(comparison, case, difference);
     println!("\nthe smallest case found that differs:\n{case}");
     for &buffer in case.operation.lent() {
-        let patterns = Comparison::lent(&case, buffer);
-        if patterns.len() <= 36 {
-            let patterns: Vec<String> = patterns.iter().map(|pattern| format!("{pattern:016x}")).collect();
-            println!("  {} holds {}", BUFFERS[buffer], patterns.join(" "));
-        }
+        println!("  {} holds {}", BUFFERS[buffer], shown::patterns(&Comparison::lent(&case, buffer)));
     }
     println!("{difference}");
 }
 
-fn report(plan: &Plan, tally: &Tally, comparison: &Comparison) {
+fn report(plan: &Plan, counts: &Counts, comparison: &Comparison) {
     println!("seed {}, level {}", plan.seed, level());
-    for (operation, cases) in OPERATIONS.iter().zip(tally.by_operation) {
+    for (operation, cases) in OPERATIONS.iter().zip(counts.by_operation) {
         println!("  {:<18}{cases:>9} cases", format!("{operation:?}"));
     }
     for number in NUMBERS {
-        println!("  number {number:<11}{:>9} cases", tally.by_number[number]);
+        println!("  number {number:<11}{:>9} cases", counts.by_number[number]);
     }
     println!("listed differences: {} sums of -0.0 only", comparison.listed.sums);
     println!("                    {} steady runs over a bad snapshot", comparison.listed.snapshots);
     println!("                    {} of them over finite velocities, where a density is not", comparison.listed.densities);
-    let (cases, entries) = (tally.cases, tally.entries);
+    let (cases, entries) = (counts.cases, counts.entries);
     println!("compare: {cases} cases on {}, {entries} entries compared, 0 differences that are not listed", level());
 }
 
 /// A long comparison that never met some number, or number 9 for a density alone, would say little.
-fn reached_all(tally: &Tally, comparison: &Comparison) -> ExitCode {
-    let numbers = NUMBERS.into_iter().filter(|&number| tally.by_number[number] == 0);
+fn reached_all(counts: &Counts, comparison: &Comparison) -> bool {
+    let numbers = NUMBERS.into_iter().filter(|&number| counts.by_number[number] == 0);
     let mut missed: Vec<String> = numbers.map(|number| number.to_string()).collect();
     if comparison.listed.densities == 0 {
         missed.push("9 for a density alone".to_string());
     }
-    if tally.cases >= 10_000 && !missed.is_empty() {
+    let little = counts.cases >= 10_000 && !missed.is_empty();
+    if little {
         println!("compare: no case was answered with {}", missed.join(", "));
-        return ExitCode::FAILURE;
     }
-    ExitCode::SUCCESS
+    !little
 }

@@ -22,12 +22,16 @@ pub struct Header {
     pub step: u32,
 }
 
+/// Cells of the grid, if the rules allow one of these sides.
+pub fn cells(nx: u64, ny: u64) -> Option<usize> {
+    let allowed = |side: u64| (1..=4096).contains(&side);
+    let cells = u128::from(nx) * u128::from(ny);
+    (allowed(nx) && allowed(ny) && cells <= 1_048_576).then_some(cells as usize)
+}
+
 impl Header {
-    /// Cells of the grid, if the rules allow one of these sides.
     fn cells(&self) -> Result<usize, Refusal> {
-        let allowed = |side: u64| (1..=4096).contains(&side);
-        let cells = u128::from(self.nx) * u128::from(self.ny);
-        if allowed(self.nx) && allowed(self.ny) && cells <= 1_048_576 { Ok(cells as usize) } else { Err(Refusal::Sides) }
+        cells(self.nx, self.ny).ok_or(Refusal::Sides)
     }
 
     /// The file with these entries: sides and count keep their low bytes where they are too large for a file.

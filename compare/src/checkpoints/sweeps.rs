@@ -1,13 +1,12 @@
 //! The questions that are asked whatever the seed: every prefix, every first byte, every limit.
 
+use super::asked::Asked;
 use super::format::Header;
-use super::question::{Asked, Question};
 use crate::made::Made;
+use crate::questions::Sweep;
+use crate::questions::limits::{LIMITS, LONGER, WIDE, WRAPPED_TO};
 
-/// So many questions, and the one of each place among them.
-type Sweep = (usize, fn(usize) -> Asked);
-
-const SWEEPS: [Sweep; 9] = [
+pub const SWEEPS: [Sweep<Asked>; 9] = [
     (86 + 446, prefix),
     (SMALL.len() * LONGER.len(), longer),
     (13 * 256, changed_byte),
@@ -21,13 +20,8 @@ const SWEEPS: [Sweep; 9] = [
 
 const SMALL: [(u64, u64); 2] = [(1, 1), (2, 3)];
 
-/// Bytes behind a whole file.
-const LONGER: [usize; 4] = [1, 8, 72, 4096];
-
 /// What a lent buffer has too many; the last leaves it empty.
 const OFF: [isize; 4] = [0, -1, 1, isize::MIN];
-
-const LIMITS: [(u64, u64); 8] = [(1, 1), (1, 4096), (4096, 1), (4096, 256), (256, 4096), (255, 256), (256, 255), (257, 3)];
 
 /// Sides that a file can have, and a grid cannot.
 const BEYOND: [(u64, u64); 15] = [
@@ -52,45 +46,6 @@ const BEYOND: [(u64, u64); 15] = [
 /// sides of a grid, and their product has 16 low bits of 0 or its count 16 low bits of 9.
 const WRAPPING: [(u64, u64); 8] =
     [(256, 256), (4096, 16), (1024, 1024), (2048, 4), (32_768, 16_384), (65_535, 65_535), (32_768, 2), (16_384, 32_768)];
-
-/// Sides of settings that no grid has; for most, some number would take their product or their low bits for a smaller grid's.
-const WIDE: [(u64, u64); 14] = [
-    (0, 0),
-    (u64::MAX, 1),
-    (1, u64::MAX),
-    (u64::MAX, u64::MAX),
-    (1 << 32, 1 << 32),
-    (1 << 63, 2),
-    (2, 1 << 63),
-    ((1 << 61) + 1, 1),
-    (1 << 61, 1 << 3),
-    ((1 << 32) + 2, 3),
-    (2, (1 << 32) + 3),
-    ((1 << 16) + 2, 3),
-    (2, (1 << 16) + 3),
-    (4096, 257),
-];
-
-/// The cells of the smaller grid.
-const WRAPPED_TO: [usize; 3] = [0, 1, 6];
-
-/// So many questions there are.
-pub fn count() -> u64 {
-    SWEEPS.iter().map(|&(count, _)| count as u64).sum()
-}
-
-/// The question of one place, if there are so many.
-pub fn question(place: u64) -> Option<Question> {
-    let address = place as usize % 8;
-    let mut place = place as usize;
-    for (count, ask) in SWEEPS {
-        if place < count {
-            return Some(Question { asked: ask(place), address });
-        }
-        place -= count;
-    }
-    None
-}
 
 /// A state whose entries are any bits and special numbers, so many cells of it.
 fn state((nx, ny): (u64, u64), cells: usize) -> (Header, Vec<f64>) {

@@ -14,6 +14,7 @@ use denote.Triple.Clauses.{AtExit}
 use borrow.Fn.World.{ArgsD}
 use Rattle.settings.specs.Outcome.{outcome}
 use Rattle.settings.proofs.Outcome.{both}
+use Rattle.tally.specs.Tally.{Entered}
 use Rattle.runs.proofs.One.{all-stepped}
 use Rattle.obstacles.specs.Obstacles.{noSlipSet}
 use Rattle.host.specs.Host.{settingsOf}
@@ -51,6 +52,14 @@ use Rattle.brothwagon.proofs.brothwagon_checkpoint_sides
 use Rattle.brothwagon.proofs.brothwagon_checkpoint_sides.Reads as checkpoint-sides-reads
 use Rattle.brothwagon.proofs.brothwagon_read_checkpoint
 use Rattle.brothwagon.proofs.brothwagon_read_checkpoint.Reads as read-checkpoint-reads
+use Rattle.brothwagon.proofs.brothwagon_tally
+use Rattle.brothwagon.proofs.brothwagon_tally.Reads as tally-reads
+use Rattle.brothwagon.proofs.brothwagon_write_entry
+use Rattle.brothwagon.proofs.brothwagon_write_entry.Reads as write-entry-reads
+use Rattle.brothwagon.proofs.brothwagon_write_tally
+use Rattle.brothwagon.proofs.brothwagon_write_tally.Reads as write-tally-reads
+use Rattle.brothwagon.proofs.brothwagon_read_tally
+use Rattle.brothwagon.proofs.brothwagon_read_tally.Reads as read-tally-reads
 
 -- ---- the number, and a buffer
 
@@ -116,7 +125,26 @@ pub checkpoint-sides-one : (κs : Lfts 2) (a : ArgsD brothwagon_checkpoint_sides
     → checkpoint-sides-reads.Post κs a r s → checkpoint-sides-reads.Post κs a q t → (r ≡ q) × (now (s .1 .0) ≡ now (t .1 .0))
 checkpoint-sides-one κs a r q s t p p' = both (p ∙ sym p')
 
+pub tally-one : (κs : Lfts 3) (a : ArgsD brothwagon_tally.signature κs) (r q : ℕ) (s t : AtExit brothwagon_tally.ended κs)
+    → tally-reads.Post κs a r s → tally-reads.Post κs a q t → (r ≡ q) × (now (s .1 .1 .0) ≡ now (t .1 .1 .0))
+tally-one κs a r q s t p p' = both (p ∙ sym p')
+
+pub write-tally-one : (κs : Lfts 2) (a : ArgsD brothwagon_write_tally.signature κs) (r q : ℕ) (s t : AtExit brothwagon_write_tally.ended κs)
+    → write-tally-reads.Post κs a r s → write-tally-reads.Post κs a q t → (r ≡ q) × (now (s .1 .0) ≡ now (t .1 .0))
+write-tally-one κs a r q s t p p' = both (p ∙ sym p')
+
+pub read-tally-one : (κs : Lfts 2) (a : ArgsD brothwagon_read_tally.signature κs) (r q : ℕ) (s t : AtExit brothwagon_read_tally.ended κs)
+    → read-tally-reads.Post κs a r s → read-tally-reads.Post κs a q t → (r ≡ q) × (now (s .1 .0) ≡ now (t .1 .0))
+read-tally-one κs a r q s t p p' = both (p ∙ sym p')
+
 -- ---- the number, and two buffers
+
+pub write-entry-one : (κs : Lfts 3) (a : ArgsD brothwagon_write_entry.signature κs) (r q : ℕ) (s t : AtExit brothwagon_write_entry.ended κs)
+    → write-entry-reads.Post κs a r s → write-entry-reads.Post κs a q t
+    → (r ≡ q) × (now (s .1 .1 .1 .1 .1 .0) ≡ now (t .1 .1 .1 .1 .1 .0)) × (now (s .1 .1 .1 .1 .1 .1 .0) ≡ now (t .1 .1 .1 .1 .1 .1 .0))
+write-entry-one κs a r q s t p p' =
+    let e = p ∙ sym p' in
+    (ap (λ (w : Entered). w .number) e, ap (λ (w : Entered). w .f) e, ap (λ (w : Entered). w .tally) e)
 
 pub read-checkpoint-one : (κs : Lfts 3) (a : ArgsD brothwagon_read_checkpoint.signature κs) (r q : ℕ) (s t : AtExit brothwagon_read_checkpoint.ended κs)
     → read-checkpoint-reads.Post κs a r s → read-checkpoint-reads.Post κs a q t → (r ≡ q) × (now (s .1 .1 .0) ≡ now (t .1 .1 .0)) × (now (s .1 .0) ≡ now (t .1 .0))

@@ -15,6 +15,7 @@ use Rattle.readings.specs.Readings.{planeStart, planeLength}
 use Rattle.runs.specs.Steady.{Values, SteadyRun}
 use Rattle.checkpoint.specs.declared.Stored.{Stored}
 use Rattle.checkpoint.specs.Checkpoint.{Read}
+use Rattle.tally.specs.declared.Tallied.{Tallied}
 
 -- ---- a number, and a small buffer with the answer, which every call writes
 
@@ -36,6 +37,9 @@ losslessTold r = record { number = r .number; buffer = r .values }
 
 abbrev pub storedTold : Stored → Written
 storedTold r = record { number = r .number; buffer = r .nx ∷ r .ny ∷ r .step ∷ [] }
+
+abbrev pub tallyTold : Tallied → Written
+tallyTold r = record { number = r .number; buffer = r .tally }
 
 -- ---- a checkpoint that is read: the number, the answer, and the populations
 

@@ -13,8 +13,10 @@ ghost use Rattle.runs.specs.Steps.{left, stepOf, runOf};
 ghost use Rattle.runs.specs.Steady.{steadyOf};
 ghost use Rattle.obstacles.specs.Obstacles.{noSlipSet};
 ghost use Rattle.checkpoint.specs.Checkpoint.{checkpointWritten, checkpointSides, checkpointRead};
+ghost use Rattle.tally.specs.Tally.{tallied, entered, entryWritten};
+ghost use Rattle.tally.specs.File.{tallyWritten, tallyRead};
 ghost use Rattle.host.specs.Host.{settingsOf};
-ghost use Rattle.brothwagon.specs.Exported.{readingTold, velocityTold, planeTold, losslessTold, steadyLeft, steadyTold, storedTold, readLeft, readTold};
+ghost use Rattle.brothwagon.specs.Exported.{readingTold, velocityTold, planeTold, losslessTold, steadyLeft, steadyTold, storedTold, readLeft, readTold, tallyTold};
 
 // ---- the start and the readings
 
@@ -252,4 +254,48 @@ pub extern "C" fn brothwagon_read_checkpoint(
     let a = checkpoint::read_checkpoint(file, f);
     *answer = told(a);
     a.number
+}
+
+// ---- the tally: an answer where it is worked out, and a lent buffer where it is moved or read
+
+#[no_mangle]
+pub extern "C" fn brothwagon_tally(w: &[u64; 19], f: &[u64], t: &mut [u64; 10]) -> u32
+    ensures { λ r. ⌜ outcome r (now (t .exit))
+        ≡ tallyTold (tallied (settingsOf (now (w .entry))) (now (f .entry))) ⌝ }
+{
+    let a = tally::tally(host::settings_of(w), f);
+    // an array goes from a field by way of a local
+    let numbers = a.tally;
+    *t = numbers;
+    a.number
+}
+
+#[no_mangle]
+pub extern "C" fn brothwagon_write_entry(
+    w: &[u64; 19],
+    x: usize,
+    y: usize,
+    direction: usize,
+    pattern: u64,
+    f: &mut [u64],
+    t: &mut [u64; 10],
+) -> u32
+    ensures { λ r. ⌜ entered r (now (f .exit)) (now (t .exit))
+        ≡ entryWritten (settingsOf (now (w .entry))) x y direction pattern (now (f .entry)) (now (t .entry)) ⌝ }
+{
+    tally::write_entry(host::settings_of(w), x, y, direction, pattern, f, t)
+}
+
+#[no_mangle]
+pub extern "C" fn brothwagon_write_tally(t: &[u64; 10], file: &mut [u8]) -> u32
+    ensures { λ r. ⌜ outcome r (now (file .exit)) ≡ tallyWritten (now (t .entry)) (now (file .entry)) ⌝ }
+{
+    tally::write_tally(t, file)
+}
+
+#[no_mangle]
+pub extern "C" fn brothwagon_read_tally(file: &[u8], t: &mut [u64]) -> u32
+    ensures { λ r. ⌜ outcome r (now (t .exit)) ≡ tallyRead (now (file .entry)) (now (t .entry)) ⌝ }
+{
+    tally::read_tally(file, t)
 }

@@ -3,14 +3,13 @@ use mathlib.Core.Path.{_≡_, refl, sym, ap, ap₂, _∙_}
 use mathlib.Core.List.{List, _++_}
 use Prim.Native.Nat.{ℕ, _+_, _*_, _^_, _≤_, _<_}
 use native.Mathlib.Omega.{arith}
-use borrow.Author.Tests.{le-ltb}
 use lib.ListN.{length, getD, length-append}
-use Rattle.words.specs.Words.{big, bigs, numberAt, numbersAt, Laid}
-use Rattle.words.proofs.Words.{bigs-length, number-of, numbers-of}
+use Rattle.words.specs.Words.{big, bigs, numberAt, partAt, numbersAt, Laid}
+use Rattle.words.proofs.Words.{bigs-length, part-of, number-of, numbers-of}
 use Rattle.words.proofs.Laid.{laid-append, laid-all}
 use Rattle.grid.specs.Grid.{Grid}
 use Rattle.settings.specs.declared.Head.{Head}
-use Rattle.checkpoint.specs.Checkpoint.{countOf, headBytes, checkpointOf, partAt, headOf, entriesOf}
+use Rattle.checkpoint.specs.Checkpoint.{countOf, headBytes, checkpointOf, headOf, entriesOf}
 
 -- ---- the bytes of a file
 
@@ -47,12 +46,6 @@ file-laid nx ny step d e g f size entries head rest =
     laid-all d g (headBytes nx ny step ++ bigs 8 f)
     (laid-append d e g (headBytes nx ny step) (bigs 8 f) 0 head (rw (head-length nx ny step) rest))
     (size ∙ sym (file-length nx ny step f entries))
-
--- ---- the parts of a file
-
-pub part-of : (n : ℕ) (b : List ℕ) (at : ℕ) → at + n ≤ length b → partAt n b at ≡ numberAt n b at
-unfolding partAt
-part-of n b at h = rw (le-ltb (length b) (at + n) h)
 
 -- ---- what is read of the file of a state
 

@@ -6,9 +6,8 @@ use Prim.Native.Nat.{ℕ, _+_, _*_, _^_, _≤_, _<_}
 use native.Mathlib.Omega.{arith}
 use borrow.Author.Tests.{eq-eqb, le-ltb}
 use lib.ListN.{length}
-use Rattle.words.specs.Words.{big, Laid}
 use Rattle.words.proofs.Words.{Bytes, numbers-length}
-use Rattle.words.proofs.Laid.{number-stands, numbers-stand}
+use Rattle.words.proofs.Laid.{part-stands, numbers-stand}
 use Rattle.settings.specs.declared.Head.{Head}
 use Rattle.settings.specs.declared.Settings.{Settings}
 use Rattle.settings.specs.Tests.{sidesBad, lengthBad, bytesBad, shortBad, versionBad, cutBad, countBad}
@@ -18,8 +17,8 @@ use Rattle.settings.specs.Outcome.{answer, Written}
 use Rattle.settings.proofs.Laws.{known, none, sides-ok}
 use Rattle.settings.proofs.Outcome.{answered}
 use Rattle.checkpoint.specs.declared.Stored.{Stored}
-use Rattle.checkpoint.specs.Checkpoint.{countOf, checkpointOf, partAt, headOf, entriesOf, Read, read, checkpointWritten, checkpointSides, checkpointRead}
-use Rattle.checkpoint.proofs.Files.{Patterns, heading, part-of, head-laid, file-laid, head-of-file, entries-of-file}
+use Rattle.checkpoint.specs.Checkpoint.{countOf, checkpointOf, headOf, entriesOf, Read, read, checkpointWritten, checkpointSides, checkpointRead}
+use Rattle.checkpoint.proofs.Files.{Patterns, heading, head-laid, file-laid, head-of-file, entries-of-file}
 
 abbrev stored : ℕ → ℕ → ℕ → Stored
 stored nx ny step = record { number = 0; nx = nx; ny = ny; step = step }
@@ -65,11 +64,6 @@ read-back s step f file lent late bits zero fits =
 -- ---- AN ACCEPTED FILE IS THE FILE OF WHAT WAS READ
 
 module _ (file lent : List ℕ) (bytes : Bytes file) (zero : refusal (Call.readCheckpoint (headOf file) (length lent)) ≡ 0) where
-  -- the number in each part of the head, whose bytes stand there
-  stands : (n at v : ℕ) → at + n ≤ length file → partAt n file at ≡ v → Laid file file at (big n v)
-  stands n at v in-file is =
-      rw (sym is ∙ part-of n file at in-file) (number-stands file at n bytes)
-
   its-file : let h = headOf file in file ≡ checkpointOf (h .nx) (h .ny) (h .step) (entriesOf file)
   its-file =
       let h = headOf file in
@@ -78,11 +72,11 @@ module _ (file lent : List ℕ) (bytes : Bytes file) (zero : refusal (Call.readC
       let long : 13 ≤ length file = omega (arith, counted .size) in
       file-laid (h .nx) (h .ny) (h .step) file file file (entriesOf file) (counted .size) (numbers-length 8 _ file 13)
       (head-laid (h .nx) (h .ny) (h .step) file file file file file file
-      (stands 4 0 _ (omega arith) (counted .count))
-      (stands 1 4 1 (omega arith) (k .1 .0))
-      (stands 2 5 _ (omega arith) refl)
-      (stands 2 7 _ (omega arith) refl)
-      (stands 4 9 _ (omega arith) refl))
+      (part-stands file 4 0 _ bytes (omega arith) (counted .count))
+      (part-stands file 1 4 1 bytes (omega arith) (k .1 .0))
+      (part-stands file 2 5 _ bytes (omega arith) refl)
+      (part-stands file 2 7 _ bytes (omega arith) refl)
+      (part-stands file 4 9 _ bytes (omega arith) refl))
       (numbers-stand file 13 8 _ bytes)
 
   pub accepted : let r = checkpointRead file lent in file ≡ checkpointOf (r .stored .nx) (r .stored .ny) (r .stored .step) (r .f)
@@ -116,7 +110,7 @@ stops false false false false false later = refl
 pub question-first : (h : Head) (len : ℕ) → let asked = refusal (Call.checkpointSides h) in
     refusal (Call.readCheckpoint h len) ≡ answer asked (cond (lengthBad (h .nx) (h .ny) 9 len) 2 0) asked
 question-first h len =
-    stops (shortBad h) (versionBad h) (cutBad h) (sidesBad (h .nx) (h .ny)) (countBad h) (cond (lengthBad (h .nx) (h .ny) 9 len) 2 0)
+    stops (shortBad (h .length)) (versionBad (h .version)) (cutBad h) (sidesBad (h .nx) (h .ny)) (countBad h) (cond (lengthBad (h .nx) (h .ny) 9 len) 2 0)
 
 -- so what the question tells is enough to lend a buffer: the file is read, with the same sides and step
 pub asked-then-read : (file lent : List ℕ) → refusal (Call.checkpointSides (headOf file)) ≡ 0

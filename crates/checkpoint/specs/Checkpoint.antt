@@ -1,10 +1,8 @@
 -- A checkpoint file: its bytes, what is read of it, and what writing, asking and reading answer and leave.
-use mathlib.Core.Bool.{cond}
 use mathlib.Core.List.{List, _++_}
 use Prim.Native.Nat.{ℕ, _+_, _*_}
-use lib.Dec.{ltb}
 use lib.ListN.{length}
-use Rattle.words.specs.Words.{big, bigs, numberAt, numbersAt}
+use Rattle.words.specs.Words.{big, bigs, partAt, numbersAt}
 use Rattle.settings.specs.declared.Head.{Head}
 use Rattle.settings.specs.declared.Settings.{Settings}
 use Rattle.settings.specs.Refusals as Call
@@ -27,10 +25,6 @@ unfoldable pub checkpointOf : ℕ → ℕ → ℕ → List ℕ → List ℕ
 checkpointOf nx ny step f = headBytes nx ny step ++ bigs 8 f
 
 -- ---- what is read of a file
-
--- the number in the n bytes from `at` on; 0 where the file ends before
-unfoldable pub partAt : ℕ → List ℕ → ℕ → ℕ
-partAt n file at = cond (ltb (length file) (at + n)) 0 (numberAt n file at)
 
 abbrev pub headOf : List ℕ → Head
 headOf file = record {

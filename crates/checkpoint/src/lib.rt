@@ -7,7 +7,7 @@ ghost use lib.ListN.{length};
 ghost use Rattle.words.specs.Words.{Laid};
 ghost use Rattle.grid.specs.Grid.{Grid};
 ghost use Rattle.settings.specs.Outcome.{outcome};
-ghost use Rattle.checkpoint.specs.Checkpoint.{headBytes, partAt, headOf, told, read, checkpointWritten, checkpointSides, checkpointRead};
+ghost use Rattle.checkpoint.specs.Checkpoint.{headBytes, headOf, told, read, checkpointWritten, checkpointSides, checkpointRead};
 
 // A number of the rules, and the sides and the step number of a file: zeros where the call is refused.
 pub struct Stored {
@@ -47,27 +47,16 @@ pub fn write_checkpoint(s: Settings, step: u32, f: &[u64], file: &mut [u8]) -> u
 
 // ---- reading
 
-// The number in the n bytes of the file from `at` on; 0 where the file ends before.
-fn part(n: usize, file: &[u8], at: usize) -> u64
-    requires { ⌜ (n ≤ 8) × (at ≤ 9) ⌝ }
-    ensures { λ r. ⌜ r ≡ partAt n (now (file .entry)) at ⌝ }
-{
-    if file.len() < at + n {
-        return 0;
-    }
-    words::number_at(n, file, at)
-}
-
 fn head(file: &[u8]) -> Head
     ensures { λ r. ⌜ r ≡ headOf (now (file .entry)) ⌝ }
 {
     Head {
         length: file.len(),
-        count: part(4, file, 0) as usize,
-        version: part(1, file, 4) as usize,
-        nx: part(2, file, 5) as usize,
-        ny: part(2, file, 7) as usize,
-        step: part(4, file, 9),
+        count: words::part(4, file, 0) as usize,
+        version: words::part(1, file, 4) as usize,
+        nx: words::part(2, file, 5) as usize,
+        ny: words::part(2, file, 7) as usize,
+        step: words::part(4, file, 9),
     }
 }
 

@@ -86,10 +86,10 @@ fn lent() {
 
 // ---- writing
 
-// Bytes that no file of the state has throughout.
-const BYTE: u8 = 0xa5;
+// A byte that no file here has throughout.
+pub const BYTE: u8 = 0xa5;
 
-fn bytes_kept(file: &[u8]) -> bool {
+pub fn bytes_kept(file: &[u8]) -> bool {
     let mut k = 0;
     while k < file.len() {
         if file[k] != BYTE {

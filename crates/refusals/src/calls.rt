@@ -2,7 +2,9 @@
 use lossless::Answer;
 use runs::Steady;
 use settings::Settings;
+use show::CANARY;
 use show::kept;
+use show::same;
 use show::zero;
 
 pub fn initialize(case: &[u8], s: Settings, table: &[u64], f: &mut [u64]) {
@@ -73,6 +75,23 @@ pub fn step(case: &[u8], s: Settings, f: &mut [u64], post: &mut [u64]) {
 pub fn run(case: &[u8], s: Settings, steps: u64, f: &mut [u64], post: &mut [u64]) {
     let number = runs::run(s, steps, f, post);
     show::left(b"run", case, number, kept(f) & kept(post));
+}
+
+pub fn tally(case: &[u8], s: Settings, f: &[u64]) {
+    let r = tally::tally(s, f);
+    let t = r.tally;
+    show::zeros(b"tally", case, r.number, same(&t, &[0; 10]));
+}
+
+// Of an array that was lent, the prover knows the length by its type alone.
+fn ten_kept(t: &[u64; 10]) -> bool {
+    kept(t)
+}
+
+pub fn write_entry(case: &[u8], s: Settings, x: usize, y: usize, i: usize, f: &mut [u64]) {
+    let mut t = [CANARY; 10];
+    let number = tally::write_entry(s, x, y, i, 1, f, &mut t);
+    show::left(b"write_entry", case, number, kept(f) & ten_kept(&t));
 }
 
 pub fn steady_number(a: Steady) -> u32 {

@@ -30,6 +30,16 @@ fn fields() {
     calls::plane(b"populations 53", s, &SHORT, 0);
 }
 
+fn tallying() {
+    let s = sized(3, 2);
+    let mut short = SHORT;
+    let mut long = LONG;
+    calls::tally(b"populations 53", s, &SHORT);
+    calls::tally(b"populations 55", s, &LONG);
+    calls::write_entry(b"populations 53", s, 0, 0, 0, &mut short);
+    calls::write_entry(b"populations 55", s, 0, 0, 0, &mut long);
+}
+
 fn carrying() {
     let s = sized(3, 2);
     let mut right = F;
@@ -67,6 +77,7 @@ fn settling() {
 pub fn all() {
     readings();
     fields();
+    tallying();
     carrying();
     stepping();
     settling();

@@ -42,6 +42,10 @@ fn run(case: &[u8], s: Settings, steps: u64) {
     calls::run(case, s, steps, &mut [CANARY; 54], &mut [CANARY; 54]);
 }
 
+fn write_entry(case: &[u8], s: Settings, x: usize, y: usize, i: usize) {
+    calls::write_entry(case, s, x, y, i, &mut [CANARY; 54]);
+}
+
 fn steady(case: &[u8], s: Settings, tolerance: f64, steps: u64) {
     let mut f = F;
     let mut post = F;
@@ -61,6 +65,8 @@ fn sides_summed() {
     calls::total_mass(b"4096 by 257", sized(4096, 257), &F);
     calls::kinetic_energy(b"0 by 0", sized(0, 0), &F);
     calls::plane(b"0 by 2", sized(0, 2), &F, 0);
+    calls::tally(b"1 by 4097", sized(1, 4097), &F);
+    write_entry(b"0 by 2", sized(0, 2), 0, 0, 0);
 }
 
 fn sides_carried() {
@@ -135,6 +141,9 @@ fn places() {
     calls::velocity(b"at 3, 0", s, &F, 3, 0);
     calls::velocity(b"at 0, 2", s, &F, 0, 2);
     calls::plane(b"direction 9", s, &F, 9);
+    write_entry(b"at 3, 0", s, 3, 0, 0);
+    write_entry(b"at 0, 2", s, 0, 2, 0);
+    write_entry(b"direction 9", s, 0, 0, 9);
 }
 
 // Numbers 7 and 8.
@@ -159,6 +168,9 @@ fn order() {
     );
     calls::plane(b"populations 53, direction 9", sized(3, 2), &short, 9);
     calls::velocity(b"fx NaN, at 3, 0", forced(nan(), 0.0), &F, 3, 0);
+    calls::tally(b"0 by 1, populations 53", sized(0, 1), &short);
+    let mut f = short;
+    calls::write_entry(b"populations 53, at 3, 0", sized(3, 2), 3, 0, 0, &mut f);
     run(b"viscosity NaN, 1000001 steps", viscous(nan()), 1000001);
     steady(b"x min Velocity 1, 0, tolerance NaN", inwards, nan(), 1);
 }

@@ -10,8 +10,8 @@ use borrow.Author.Tests.{ltb-false, leb-false, eqb-true, not-false}
 use Rattle.grid.specs.Grid.{Grid, mostSide, mostCells}
 use Rattle.settings.specs.declared.Head.{Head}
 use Rattle.settings.specs.declared.Settings.{Settings}
-use Rattle.settings.specs.Tests.{sideBad, sidesBad, lengthBad, bytesBad, ratesBad, forceBad, facesBad, stepsBad, mostSteps, placeBad, directionBad, outside, falls, driven, lossy, countBad}
-use Rattle.settings.specs.Refusals.{Test, row, first, Call, tests, refusal, sides, lengths, rates, force, faces, kinds, losses, tolerance, steps, place, direction, places, ascent, bytes, short, version, cut, stored, counted, lent}
+use Rattle.settings.specs.Tests.{sideBad, sidesBad, lengthBad, bytesBad, ratesBad, forceBad, facesBad, stepsBad, mostSteps, placeBad, directionBad, outside, falls, driven, lossy, countBad, sizeBad, tallyCountBad, sumsBad}
+use Rattle.settings.specs.Refusals.{Test, row, first, Call, tests, refusal, sides, lengths, rates, force, faces, kinds, losses, tolerance, steps, place, direction, places, ascent, bytes, short, version, cut, stored, counted, lent, tallyCounted, sums, sized}
 
 -- ---- what a test tells
 
@@ -26,6 +26,11 @@ pub record Inside (s : Settings) (x y : ℕ) : Type 0 where
 pub record Counted (h : Head) : Type 0 where
   pub count : h .count ≡ 9 + 72 * (h .nx * h .ny)
   pub size : h .length ≡ 13 + 72 * (h .nx * h .ny)
+
+-- the same of a tally's file
+pub record TallyCounted (length count : ℕ) : Type 0 where
+  pub count-is : count ≡ 81
+  pub size : length ≡ 85
 
 pub or-left : (a b : Bool) → a || b ≡ false → a ≡ false
 or-left false b e = refl
@@ -80,6 +85,17 @@ count-ok h e =
       size = bytes-ok (h .nx) (h .ny) 13 (h .length) (or-right counts fits e);
     }
 
+pub size-ok : (size len : ℕ) → sizeBad size len ≡ false → len ≡ size
+unfolding sizeBad
+size-ok size len e = eqb-true len size (not-false _ e)
+
+tally-count-ok : (length count : ℕ) → tallyCountBad length count ≡ false → TallyCounted length count
+unfolding tallyCountBad
+tally-count-ok length count e = record {
+  count-is = size-ok 81 count (or-left (sizeBad 81 count) (sizeBad 85 length) e);
+  size = size-ok 85 length (or-right (sizeBad 81 count) (sizeBad 85 length) e);
+}
+
 pub steps-ok : (n : ℕ) → stepsBad n ≡ false → n ≤ mostSteps
 steps-ok n e = ltb-false mostSteps n e
 
@@ -109,12 +125,15 @@ Tells (losses s) = lossy s ≡ false
 Tells (tolerance t) = isNan t ≡ false
 Tells (steps n) = n ≤ mostSteps
 Tells (bytes s len) = len ≡ 13 + 72 * (s .nx * s .ny)
-Tells (short h) = 5 ≤ h .length
-Tells (version h) = h .version ≡ 1
+Tells (short length) = 5 ≤ length
+Tells (version v) = v ≡ 1
 Tells (cut h) = 9 ≤ h .length
 Tells (stored h) = Grid (h .nx) (h .ny)
 Tells (counted h) = Counted h
 Tells (lent h per len) = len ≡ per * (h .nx * h .ny)
+Tells (tallyCounted length count) = TallyCounted length count
+Tells (sums t) = sumsBad t ≡ false
+Tells (sized size len) = len ≡ size
 
 tells : (t : Test) → row t .bad ≡ false → Tells t
 tells (sides s) e = sides-ok (s .nx) (s .ny) e
@@ -131,12 +150,15 @@ tells (losses s) e = e
 tells (tolerance t) e = e
 tells (steps n) e = steps-ok n e
 tells (bytes s len) e = bytes-ok (s .nx) (s .ny) 13 len e
-tells (short h) e = ltb-false (h .length) 5 e
-tells (version h) e = eqb-true (h .version) 1 (not-false _ e)
+tells (short length) e = ltb-false length 5 e
+tells (version v) e = eqb-true v 1 (not-false _ e)
 tells (cut h) e = ltb-false (h .length) 9 e
 tells (stored h) e = sides-ok (h .nx) (h .ny) e
 tells (counted h) e = count-ok h e
 tells (lent h per len) e = length-ok (h .nx) (h .ny) per len e
+tells (tallyCounted length count) e = tally-count-ok length count e
+tells (sums t) e = e
+tells (sized size len) e = size-ok size len e
 
 -- ---- what a call that is not refused tells
 
@@ -161,12 +183,15 @@ positive (losses s) = tt
 positive (tolerance t) = tt
 positive (steps n) = tt
 positive (bytes s len) = tt
-positive (short h) = tt
-positive (version h) = tt
+positive (short length) = tt
+positive (version v) = tt
 positive (cut h) = tt
 positive (stored h) = tt
 positive (counted h) = tt
 positive (lent h per len) = tt
+positive (tallyCounted length count) = tt
+positive (sums t) = tt
+positive (sized size len) = tt
 
 -- each test of the list tells its own
 abbrev pub All : List Test → Type 0

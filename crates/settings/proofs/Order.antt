@@ -1,7 +1,7 @@
 -- Every operation tests in the one order: its numbers stand as in `order`, whatever the call.
 use mathlib.Core.Path.{_≡_, refl}
 use mathlib.Core.Bool.{true}
-use Rattle.settings.specs.Refusals.{Call, tests, order, follows, initialize, density, velocity, velocityField, totalMass, kineticEnergy, plane, streamWithFaces, lossless, reverse, step, run, runToSteadyState, setNoSlipBc, writeCheckpoint, checkpointSides, readCheckpoint}
+use Rattle.settings.specs.Refusals.{Call, tests, order, follows, initialize, density, velocity, velocityField, totalMass, kineticEnergy, plane, streamWithFaces, lossless, reverse, step, run, runToSteadyState, setNoSlipBc, writeCheckpoint, checkpointSides, readCheckpoint, tally, writeEntry, writeTally, readTally}
 
 pub in-order : (c : Call) → follows order (tests c) ≡ true
 in-order (initialize s table f) = refl
@@ -21,3 +21,7 @@ in-order (setNoSlipBc s list f) = refl
 in-order (writeCheckpoint s f n) = refl
 in-order (checkpointSides h) = refl
 in-order (readCheckpoint h f) = refl
+in-order (tally s f) = refl
+in-order (writeEntry s f x y i) = refl
+in-order (writeTally t n) = refl
+in-order (readTally length count v ten t) = refl

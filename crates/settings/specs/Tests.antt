@@ -4,6 +4,7 @@ use mathlib.Core.Bool.{Bool, true, false, not, xor, _&&_, _||_}
 use mathlib.Core.List.{List, [], _∷_}
 use Prim.Native.Nat.{ℕ, _+_, _*_}
 use lib.Dec.{eqb, leb, ltb}
+use lib.ListN.{getD}
 use lib.Ieee.{Float, isNan, eq, lt}
 use Rattle.number.specs.Number.{_⊕_, _⊖_, _⊗_, c0, c½, c1, c2, c3, notFinite}
 use Rattle.lattice.specs.declared.Axis.{Axis}
@@ -14,6 +15,7 @@ use Rattle.lattice.specs.Sides.{normal, along}
 use Rattle.cell.specs.declared.Collision.{Collision}
 use Rattle.cell.specs.declared.Collision.the-variants.{Bgk, Mrt, Trt}
 use Rattle.grid.specs.Grid.{mostSide, mostCells}
+use Rattle.sums.specs.Sums.{sum, wrapped}
 use Rattle.settings.specs.declared.Face.{Face}
 use Rattle.settings.specs.declared.Face.the-variants.{Periodic, NoSlip, MovingWall, Symmetry, Velocity, Pressure}
 use Rattle.settings.specs.declared.Head.{Head}
@@ -36,6 +38,10 @@ lengthBad nx ny per len = not (eqb len (per * (nx * ny)))
 -- or a file has it, which is not `head` bytes and nine entries of eight bytes for each cell
 unfoldable pub bytesBad : ℕ → ℕ → ℕ → ℕ → Bool
 bytesBad nx ny head len = not (eqb len (head + 72 * (nx * ny)))
+
+-- or a tally or its file has it, which is not `size`, whatever the grid: ten numbers, 85 bytes
+unfoldable pub sizeBad : ℕ → ℕ → Bool
+sizeBad size len = not (eqb len size)
 
 -- ---- 3: τ = 3.0·ν + 0.5 is not finite or below 0.5; or a Trt minus rate is not finite, below 0 or above 2
 
@@ -159,13 +165,13 @@ lossy s =
 
 -- ---- 12: fewer than five bytes, so no version
 
-abbrev pub shortBad : Head → Bool
-shortBad h = ltb (h .length) 5
+abbrev pub shortBad : ℕ → Bool
+shortBad length = ltb length 5
 
 -- ---- 13: the version is not 1
 
-abbrev pub versionBad : Head → Bool
-versionBad h = not (eqb (h .version) 1)
+abbrev pub versionBad : ℕ → Bool
+versionBad version = not (eqb version 1)
 
 -- ---- 14: the sides are cut short: fewer than nine bytes
 
@@ -176,3 +182,16 @@ cutBad h = ltb (h .length) 9
 
 unfoldable pub countBad : Head → Bool
 countBad h = bytesBad (h .nx) (h .ny) 9 (h .count) || bytesBad (h .nx) (h .ny) 13 (h .length)
+
+-- of a tally's file: the count is 81, the length 85
+unfoldable pub tallyCountBad : ℕ → ℕ → Bool
+tallyCountBad length count = sizeBad 81 count || sizeBad 85 length
+
+-- ---- 17: the nine numbers of a tally do not wrap to the first
+
+-- the number of direction plane i in a tally
+abbrev pub planeIn : List ℕ → ℕ → ℕ
+planeIn t i = getD t (i + 1) 0
+
+unfoldable pub sumsBad : List ℕ → Bool
+sumsBad t = not (eqb (wrapped (sum 9 (planeIn t))) (getD t 0 0))

@@ -7,7 +7,7 @@ ghost use mathlib.Core.Bool.{cond};
 ghost use mathlib.Core.List.{[], _∷_};
 ghost use Prim.Native.Nat.{_≤_};
 ghost use Rattle.settings.specs.Tests as Tests;
-ghost use Rattle.settings.specs.Tests.{sideBad, sidesBad, lengthBad, bytesBad, tauOf, tauBad, rateBad, faceBad, isPeriodic, isSymmetry, countBad};
+ghost use Rattle.settings.specs.Tests.{sideBad, sidesBad, lengthBad, bytesBad, tauOf, tauBad, rateBad, faceBad, isPeriodic, isSymmetry, countBad, tallyCountBad, sumsBad};
 ghost use Rattle.settings.specs.Refusals as Refusals;
 ghost use Rattle.settings.specs.Refusals.{first, refusal};
 
@@ -52,6 +52,9 @@ pub struct Head {
 }
 
 pub const MOST_STEPS: u64 = 1_000_000;
+
+// The bytes of a tally's file: a count, a version, and ten numbers.
+pub const TALLY_FILE: usize = 85;
 
 // ---- the tests
 
@@ -197,6 +200,19 @@ fn count_bad(h: Head) -> bool
     bytes_bad(h.nx, h.ny, 9, h.count) | bytes_bad(h.nx, h.ny, 13, h.length)
 }
 
+fn tally_count_bad(length: usize, count: usize) -> bool
+    ensures { λ r. ⌜ r ≡ tallyCountBad length count ⌝ }
+{
+    (count != 81) | (length != TALLY_FILE)
+}
+
+// Whether the nine numbers of a tally do not wrap to the first.
+fn sums_bad(t: &[u64; 10]) -> bool
+    ensures { λ r. ⌜ r ≡ sumsBad (now (t .entry)) ⌝ }
+{
+    sums::stretch(t, 1, 9) != t[0]
+}
+
 // ---- the tests with their numbers: each gives its own where its test holds, and else what the later tests gave
 
 pub fn number_if(bad: bool, number: u32, later: u32) -> u32
@@ -291,18 +307,33 @@ fn losses(s: Settings, later: u32) -> u32
     number_if(lossy(s), 8, later)
 }
 
+// What every file is tested for first.
+fn versioned(length: usize, version: usize, later: u32) -> u32
+    ensures { λ r. ⌜ r ≡ first (Refusals.short length ∷ Refusals.version version ∷ []) later ⌝ }
+{
+    number_if(length < 5, 12, number_if(version != 1, 13, later))
+}
+
 // The tests of a checkpoint file by itself.
 fn file(h: Head, later: u32) -> u32
-    ensures { λ r. ⌜ r ≡ first (Refusals.short h ∷ Refusals.version h ∷ Refusals.cut h ∷ Refusals.stored h
-        ∷ Refusals.counted h ∷ []) later ⌝ }
+    ensures { λ r. ⌜ r ≡ first (Refusals.short (h .length) ∷ Refusals.version (h .version) ∷ Refusals.cut h
+        ∷ Refusals.stored h ∷ Refusals.counted h ∷ []) later ⌝ }
 {
     let miscounted = count_bad(h);
     let outside = sides_bad(h.nx, h.ny);
     let later = number_if(miscounted, 15, later);
     let later = number_if(outside, 1, later);
     let later = number_if(h.length < 9, 14, later);
-    let later = number_if(h.version != 1, 13, later);
-    number_if(h.length < 5, 12, later)
+    versioned(h.length, h.version, later)
+}
+
+// The tests of ten numbers that are written or read, where `size` entries are to be lent for them.
+fn numbers(t: &[u64; 10], size: usize, len: usize) -> u32
+    ensures { λ r. ⌜ r ≡ first (Refusals.sums (now (t .entry)) ∷ Refusals.sized size len ∷ []) 0 ⌝ }
+{
+    let unlike = len != size;
+    let unwrapped = sums_bad(t);
+    number_if(unwrapped, 17, number_if(unlike, 2, 0))
 }
 
 // ---- what each operation refuses, over the lengths of its lent buffers
@@ -427,4 +458,38 @@ pub fn read_checkpoint_refusal(h: Head, f: usize) -> u32
     ensures { λ r. ⌜ r ≡ refusal (Refusals.readCheckpoint h f) ⌝ }
 {
     file(h, number_if(length_bad(h.nx, h.ny, 9, f), 2, 0))
+}
+
+pub fn tally_refusal(s: Settings, f: usize) -> u32
+    ensures { λ r. ⌜ r ≡ refusal (Refusals.tally s f) ⌝ }
+{
+    populations(s, f, 0)
+}
+
+pub fn write_entry_refusal(s: Settings, f: usize, x: usize, y: usize, i: usize) -> u32
+    ensures { λ r. ⌜ r ≡ refusal (Refusals.writeEntry s f x y i) ⌝ }
+{
+    populations(s, f, place(s, x, y, direction(i, 0)))
+}
+
+// bytes is the length of the file.
+pub fn write_tally_refusal(t: &[u64; 10], bytes: usize) -> u32
+    ensures { λ r. ⌜ r ≡ refusal (Refusals.writeTally (now (t .entry)) bytes) ⌝ }
+{
+    numbers(t, TALLY_FILE, bytes)
+}
+
+// The length of a file, the count, the version and the ten numbers in it; tally is the length of the lent one.
+pub fn read_tally_refusal(
+    length: usize,
+    count: usize,
+    version: usize,
+    ten: &[u64; 10],
+    tally: usize,
+) -> u32
+    ensures { λ r. ⌜ r ≡ refusal (Refusals.readTally length count version (now (ten .entry)) tally) ⌝ }
+{
+    let later = numbers(ten, 10, tally);
+    let later = number_if(tally_count_bad(length, count), 15, later);
+    versioned(length, version, later)
 }

@@ -1,15 +1,15 @@
 -- Bytes that are written: number after number, and lists that meet.
 use mathlib.Core.Path.{_≡_, refl, sym, ap, _∙_}
 use mathlib.Core.List.{List, [], _++_}
-use Prim.Native.Nat.{ℕ, zero, suc, _+_, _*_, _<_}
+use Prim.Native.Nat.{ℕ, zero, suc, _+_, _*_, _≤_, _<_}
 use native.Mathlib.Nat.{zero-add}
 use native.Mathlib.Omega.{arith}
 use lib.ListN.{length, getD, set, length-append, List·getD-append}
 use lib.Seq.{ext-getD, getD-append-add}
 use Rattle.grid.specs.Writes.{Wrote}
 use Rattle.grid.proofs.Writes.{one-more, join, same-values, to-length}
-use Rattle.words.specs.Words.{big, bigs, numberAt, numbersAt, Laid}
-use Rattle.words.proofs.Words.{Bytes, big-length, bigs-at, numbers-length, numbers-at, bytes-of}
+use Rattle.words.specs.Words.{big, bigs, numberAt, partAt, numbersAt, Laid}
+use Rattle.words.proofs.Words.{Bytes, big-length, bigs-at, numbers-length, numbers-at, bytes-of, part-of}
 
 -- ---- numbers of eight bytes, one more
 
@@ -57,6 +57,10 @@ pub number-stands : (b : List ℕ) (at n : ℕ) → Bytes b → Laid b b at (big
 number-stands b at n bytes =
     standing b (big n (numberAt n b at)) at
     (λ k h. sym (bytes-of b at bytes n k (omega (arith, big-length n (numberAt n b at)))))
+
+-- the number that a part of a file is read as
+pub part-stands : (b : List ℕ) (n at v : ℕ) → Bytes b → at + n ≤ length b → partAt n b at ≡ v → Laid b b at (big n v)
+part-stands b n at v bytes inside is = rw (sym is ∙ part-of n b at inside) (number-stands b at n bytes)
 
 pub numbers-stand : (b : List ℕ) (at n count : ℕ) → Bytes b → Laid b b at (bigs n (numbersAt n count b at))
 unfolding numbersAt bigs

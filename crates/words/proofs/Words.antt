@@ -5,11 +5,12 @@ use Prim.Native.Nat.{ℕ, zero, suc, _+_, _-_, _*_, _/_, _%_, _^_, _≤_, _<_}
 use native.Mathlib.Nat.{div-eq-of-lt, div-add-mod', div-div-eq-div-mul, div-one, pow-suc, mul-comm, zero-add, le-of-suc-le-suc}
 use native.Mathlib.Numerals.{add-one}
 use native.Mathlib.Omega.{arith}
+use borrow.Author.Tests.{le-ltb}
 use lib.Pow.{pow-add, pow-mono}
 use lib.Arith.{digits-div, digits-mod}
 use lib.ListN.{length, getD, length-append, List·getD-append}
 use lib.Seq.{ext-getD, getD-append-add}
-use Rattle.words.specs.Words.{byteOf, big, bigs, numberAt, numbersAt}
+use Rattle.words.specs.Words.{byteOf, big, bigs, numberAt, partAt, numbersAt}
 
 -- every entry is a byte
 pub record Bytes (b : List ℕ) : Type 0 where
@@ -142,6 +143,12 @@ numbers-of n l f fits =
     here k m j h =
         let p : length l + n * k + j ≡ length l + (n * k + j) = omega arith in
         ap (λ (i : ℕ). getD b i 0) p ∙ getD-append-add l (bigs n f) (n * k + j) 0 ∙ bigs-at n f k j m h
+
+-- ---- a number that is there whole
+
+pub part-of : (n : ℕ) (b : List ℕ) (at : ℕ) → at + n ≤ length b → partAt n b at ≡ numberAt n b at
+unfolding partAt
+part-of n b at h = rw (le-ltb (length b) (at + n) h)
 
 -- ---- what the code computes with
 

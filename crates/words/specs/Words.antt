@@ -1,6 +1,8 @@
 -- Numbers as bytes, the highest first, and the numbers that bytes spell.
+use mathlib.Core.Bool.{cond}
 use mathlib.Core.List.{List, [], _∷_, _++_}
 use Prim.Native.Nat.{ℕ, zero, suc, _+_, _*_, _/_, _%_, _^_}
+use lib.Dec.{ltb}
 use lib.ListN.{length, getD}
 use Rattle.grid.specs.Writes.{Wrote}
 
@@ -26,6 +28,10 @@ bigs n (v ∷ rest) = big n v ++ bigs n rest
 unfoldable pub numberAt : ℕ → List ℕ → ℕ → ℕ
 numberAt zero b at = 0
 numberAt (suc n) b at = numberAt n b at * 256 + getD b (at + n) 0
+
+-- the same; 0 where the bytes end before
+unfoldable pub partAt : ℕ → List ℕ → ℕ → ℕ
+partAt n b at = cond (ltb (length b) (at + n)) 0 (numberAt n b at)
 
 -- so many numbers of n bytes each, from `at` on
 unfoldable pub numbersAt : ℕ → ℕ → List ℕ → ℕ → List ℕ

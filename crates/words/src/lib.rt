@@ -1,8 +1,8 @@
 // Numbers as bytes, the highest first: one number of up to eight bytes, and many of eight.
 ghost use mathlib.Core.Path.{_≡_};
-ghost use Prim.Native.Nat.{_+_, _*_, _≤_, _<_};
+ghost use Prim.Native.Nat.{_+_, _*_, _^_, _≤_, _<_};
 ghost use lib.ListN.{length};
-ghost use Rattle.words.specs.Words.{byteOf, big, bigs, numberAt, numbersAt, Laid};
+ghost use Rattle.words.specs.Words.{byteOf, big, bigs, numberAt, partAt, numbersAt, Laid};
 
 // ---- reading
 
@@ -24,6 +24,17 @@ pub fn number_at(n: usize, b: &[u8], at: usize) -> u64
         k += 1;
     }
     v
+}
+
+// The number that the n bytes of b from `at` on spell; 0 where b ends before.
+pub fn part(n: usize, b: &[u8], at: usize) -> u64
+    requires { ⌜ (n ≤ 8) × (at + n < 2 ^ 64) ⌝ }
+    ensures { λ r. ⌜ r ≡ partAt n (now (b .entry)) at ⌝ }
+{
+    if b.len() < at + n {
+        return 0;
+    }
+    number_at(n, b, at)
 }
 
 // Fills f with numbers of eight bytes each, from `at` on.

@@ -18,7 +18,11 @@ static uint64_t words[GUARD + ANSWERS + GUARD];
 static double *buffer(int which) { return &lent[which][GUARD]; }
 static const double *only_read(int which) { return buffer(which); }
 
-static uint8_t *file(const Call *c) { return (uint8_t *)buffer(CHECKPOINT) + c->file_at; }
+/* No C reads or writes these words but as bytes. */
+static uint64_t *tally_sums(void) { return (uint64_t *)buffer(SUMS); }
+static const uint64_t *only_read_sums(void) { return tally_sums(); }
+
+static uint8_t *file(const Call *c) { return (uint8_t *)buffer(BYTES) + c->file_at; }
 static const uint8_t *only_read_file(const Call *c) { return file(c); }
 
 static double *number_answer(void) { return &numbers[GUARD]; }
@@ -82,18 +86,31 @@ static uint32_t set_no_slip_bc(const Call *c) {
 }
 
 static uint32_t write_checkpoint(const Call *c) {
-    return brothwagon_write_checkpoint(&c->settings, c->step, only_read(F), c->length[F], file(c), c->length[CHECKPOINT]);
+    return brothwagon_write_checkpoint(&c->settings, c->step, only_read(F), c->length[F], file(c), c->length[BYTES]);
 }
 
 static uint32_t checkpoint_sides(const Call *c) {
-    return brothwagon_checkpoint_sides(only_read_file(c), c->length[CHECKPOINT], word_answer());
+    return brothwagon_checkpoint_sides(only_read_file(c), c->length[BYTES], word_answer());
 }
 
 static uint32_t read_checkpoint(const Call *c) {
-    return brothwagon_read_checkpoint(only_read_file(c), c->length[CHECKPOINT], buffer(F), c->length[F], word_answer());
+    return brothwagon_read_checkpoint(only_read_file(c), c->length[BYTES], buffer(F), c->length[F], word_answer());
 }
 
-/* The name; the call; whether f, post, u, table and a file are lent; numbers and words of the answer; what is tested. */
+static uint32_t tally(const Call *c) { return brothwagon_tally(&c->settings, only_read(F), c->length[F], word_answer()); }
+
+static uint32_t write_entry(const Call *c) {
+    return brothwagon_write_entry(&c->settings, c->x, c->y, c->direction, c->pattern, buffer(F), c->length[F], tally_sums());
+}
+
+static uint32_t write_tally(const Call *c) { return brothwagon_write_tally(only_read_sums(), file(c), c->length[BYTES]); }
+
+static uint32_t read_tally(const Call *c) {
+    return brothwagon_read_tally(only_read_file(c), c->length[BYTES], tally_sums(), c->length[SUMS]);
+}
+
+/* The name; the call; whether f, post, u, table, tally and file are lent with a length that number 2 tests; numbers and words of
+ * the answer; what is tested. */
 const Operation INITIALIZE = {"brothwagon_initialize", initialize, {1, 0, 0, 1}, 0, 0, {1, 2, 0}};
 const Operation DENSITY = {"brothwagon_density", density, {1, 0, 0, 0}, 1, 0, {1, 2, 6, 0}};
 const Operation VELOCITY = {"brothwagon_velocity", velocity, {1, 0, 0, 0}, 2, 0, {1, 2, 4, 6, 0}};
@@ -109,16 +126,20 @@ const Operation RUN = {"brothwagon_run", run, {1, 1, 0, 0}, 0, 0, {1, 2, 3, 4, 5
 const Operation RUN_TO_STEADY_STATE = {
     "brothwagon_run_to_steady_state", run_to_steady_state, {1, 1, 1, 0}, 0, 3, {1, 2, 3, 4, 5, 10, 0}};
 const Operation SET_NO_SLIP_BC = {"brothwagon_set_no_slip_bc", set_no_slip_bc, {1, 0, 0, 0}, 0, 0, {1, 2, 6, 16, 0}};
-const Operation WRITE_CHECKPOINT = {"brothwagon_write_checkpoint", write_checkpoint, {1, 0, 0, 0, 1}, 0, 0, {1, 2, 0}};
+const Operation WRITE_CHECKPOINT = {"brothwagon_write_checkpoint", write_checkpoint, {1, 0, 0, 0, 0, 1}, 0, 0, {1, 2, 0}};
 const Operation CHECKPOINT_SIDES = {"brothwagon_checkpoint_sides", checkpoint_sides, {0, 0, 0, 0}, 0, 3,
                                     {12, 13, 14, 1, 15, 0}};
 const Operation READ_CHECKPOINT = {"brothwagon_read_checkpoint", read_checkpoint, {1, 0, 0, 0}, 0, 3,
                                    {12, 13, 14, 1, 15, 2, 0}};
+const Operation TALLY = {"brothwagon_tally", tally, {1, 0, 0, 0}, 0, 10, {1, 2, 0}};
+const Operation WRITE_ENTRY = {"brothwagon_write_entry", write_entry, {1, 0, 0, 0}, 0, 0, {1, 2, 6, 0}};
+const Operation WRITE_TALLY = {"brothwagon_write_tally", write_tally, {0, 0, 0, 0, 0, 1}, 0, 0, {17, 2, 0}};
+const Operation READ_TALLY = {"brothwagon_read_tally", read_tally, {0, 0, 0, 0, 1}, 0, 0, {12, 13, 15, 17, 2, 0}};
 
 const Operation *const ALL[OPERATIONS] = {
-    &INITIALIZE,        &DENSITY,          &VELOCITY,       &VELOCITY_FIELD, &TOTAL_MASS, &KINETIC_ENERGY,      &PLANE,
-    &STREAM_WITH_FACES, &LOSSLESS,         &REVERSE,        &STEP,           &RUN,        &RUN_TO_STEADY_STATE, &SET_NO_SLIP_BC,
-    &WRITE_CHECKPOINT,  &CHECKPOINT_SIDES, &READ_CHECKPOINT};
+    &INITIALIZE, &DENSITY, &VELOCITY, &VELOCITY_FIELD, &TOTAL_MASS, &KINETIC_ENERGY, &PLANE, &STREAM_WITH_FACES, &LOSSLESS,
+    &REVERSE, &STEP, &RUN, &RUN_TO_STEADY_STATE, &SET_NO_SLIP_BC, &WRITE_CHECKPOINT, &CHECKPOINT_SIDES, &READ_CHECKPOINT,
+    &TALLY, &WRITE_ENTRY, &WRITE_TALLY, &READ_TALLY};
 
 int tests_for(const Operation *operation, uint32_t number) {
     for (const uint32_t *test = operation->tests; *test != 0; test++) {
@@ -170,7 +191,7 @@ static void fill_grid(Call *call) {
 }
 
 Call begin(uint64_t nx, uint64_t ny, const char *format, ...) {
-    const size_t a_cell[BUFFERS] = {9, 9, 2, 3, 72};
+    const size_t a_cell[BUFFERS] = {9, 9, 2, 3, 0, 72}, besides[BUFFERS] = {0, 0, 0, 0, 10, 13};
     va_list arguments;
     Call call;
     va_start(arguments, format);
@@ -181,12 +202,12 @@ Call begin(uint64_t nx, uint64_t ny, const char *format, ...) {
     call.settings.ny = ny;
     call.settings.nu = 0.5;
     for (int which = 0; which < BUFFERS; which++) {
-        call.length[which] = a_cell[which] * nx * ny;
+        call.length[which] = a_cell[which] * nx * ny + besides[which];
         fill(given[which], which, MOST);
         fill(wanted[which], which, MOST);
     }
-    call.length[CHECKPOINT] += 13;
     call.file_at = 1;
+    call.pattern = 1;
     fill_grid(&call);
     memset(wanted_answer, 0, sizeof wanted_answer);
     return call;
@@ -232,7 +253,7 @@ static void lend(void) {
 }
 
 void check(const Operation *operation, const Call *call, uint32_t number) {
-    static const char *const names[BUFFERS] = {"f", "post", "u", "the table", "the words about the file"};
+    static const char *const names[BUFFERS] = {"f", "post", "u", "the table", "the tally", "the words about the file"};
     const Call before = *call;
     lend();
     const uint32_t seen = operation->make(call);

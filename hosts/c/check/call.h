@@ -6,18 +6,19 @@
 
 #define COUNT(rows) (sizeof(rows) / sizeof *(rows))
 
-/* The lent buffers; the last is a checkpoint file's, of bytes. */
-enum { F, POST, U, TABLE, CHECKPOINT, BUFFERS };
+/* The lent buffers; the last two are a tally's, of ten words, and a file's, of bytes. */
+enum { F, POST, U, TABLE, SUMS, BYTES, BUFFERS };
 
 /* The most words of a buffer, the most of an answer, and the words before and behind either that no call may touch; and the
  * most obstacles of a list. */
-enum { MOST = 64, ANSWERS = 4, GUARD = 8, OBSTACLES = 8 };
+enum { MOST = 64, ANSWERS = 10, GUARD = 8, OBSTACLES = 8 };
 
 /* All that a call can be given. */
 typedef struct {
     brothwagon_settings settings;
     size_t length[BUFFERS];
     size_t x, y, direction;
+    uint64_t pattern;
     double tolerance;
     uint64_t steps, check_every;
     uint32_t step;
@@ -29,15 +30,16 @@ typedef struct {
 typedef struct {
     const char *name;
     uint32_t (*make)(const Call *call);
-    int lent[BUFFERS];     /* whether it is lent each buffer; a file that it reads has lengths of its own */
+    int lent[BUFFERS];     /* whether it is lent each buffer with a length that number 2 tests: a file that it reads is not */
     size_t numbers, words; /* of its answer: f64, or 64-bit words */
     uint32_t tests[8];     /* the numbers that it tests, in the rules' order; then 0 */
 } Operation;
 
 extern const Operation INITIALIZE, DENSITY, VELOCITY, VELOCITY_FIELD, TOTAL_MASS, KINETIC_ENERGY, PLANE, STREAM_WITH_FACES,
-    LOSSLESS, REVERSE, STEP, RUN, RUN_TO_STEADY_STATE, SET_NO_SLIP_BC, WRITE_CHECKPOINT, CHECKPOINT_SIDES, READ_CHECKPOINT;
+    LOSSLESS, REVERSE, STEP, RUN, RUN_TO_STEADY_STATE, SET_NO_SLIP_BC, WRITE_CHECKPOINT, CHECKPOINT_SIDES, READ_CHECKPOINT,
+    TALLY, WRITE_ENTRY, WRITE_TALLY, READ_TALLY;
 
-enum { OPERATIONS = 17 };
+enum { OPERATIONS = 21 };
 extern const Operation *const ALL[OPERATIONS];
 
 /* Whether an operation tests a number. */
@@ -51,8 +53,8 @@ extern uint64_t wanted_answer[ANSWERS];
 uint64_t pattern(double number);
 
 /* Begins a case, named as by printf: buffers of canaries, expected to stay; an answer of zeros; and a call on a grid of this
- * size with buffers of the right lengths, Bgk with tau 2, no force, periodic faces, a file at an odd address, an obstacle in
- * every cell, and zeros. */
+ * size with buffers of the right lengths (a file's is a checkpoint's), Bgk with tau 2, no force, periodic faces, a file at an
+ * odd address, an obstacle in every cell, the pattern 1 to write, and zeros. */
 Call begin(uint64_t nx, uint64_t ny, const char *format, ...);
 
 /* Makes this list that of the call. Behind it stand places outside whose x + y nx wraps to 0, so that a look at one shows. */
@@ -71,5 +73,6 @@ void check_streaming(void);
 void check_steps(void);
 void check_obstacles(void);
 void check_checkpoints(void);
+void check_tallies(void);
 
 #endif

@@ -33,12 +33,11 @@ static void a_cell(size_t at) {
     Call call = begin(1, 1, "a cell, the file %u bytes past a multiple of 8", (unsigned)at);
     call.step = 0x01020304;
     call.file_at = at;
-    memcpy(given[F], F_OF_A_CELL, sizeof F_OF_A_CELL);
-    memcpy(wanted[F], F_OF_A_CELL, sizeof F_OF_A_CELL);
-    memcpy((uint8_t *)wanted[CHECKPOINT] + at, FILE_OF_A_CELL, sizeof FILE_OF_A_CELL);
+    hold_patterns(F, F_OF_A_CELL, DIRECTIONS);
+    memcpy((uint8_t *)wanted[BYTES] + at, FILE_OF_A_CELL, sizeof FILE_OF_A_CELL);
     done(&WRITE_CHECKPOINT, &call);
 
-    memcpy(given[CHECKPOINT], wanted[CHECKPOINT], sizeof given[CHECKPOINT]);
+    memcpy(given[BYTES], wanted[BYTES], sizeof given[BYTES]);
     memset(given[F], 0xa5, sizeof F_OF_A_CELL);
     want_header(1, 1, 0x01020304);
     done(&READ_CHECKPOINT, &call);
@@ -67,7 +66,7 @@ static void sides_of_settings(uint64_t nx, uint64_t ny, size_t cells) {
     call.settings.nx = nx;
     call.settings.ny = ny;
     call.length[F] = 9 * cells;
-    call.length[CHECKPOINT] = 13 + 72 * cells;
+    call.length[BYTES] = 13 + 72 * cells;
     check(&WRITE_CHECKPOINT, &call, 1);
 }
 

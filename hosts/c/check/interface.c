@@ -103,6 +103,15 @@ uint32_t brothwagon_checkpoint_sides(const uint8_t *file, size_t file_length, ui
 
 uint32_t brothwagon_read_checkpoint(const uint8_t *file, size_t file_length, double *f, size_t f_length, uint64_t answer[3]);
 
+uint32_t brothwagon_tally(const brothwagon_settings *settings, const double *f, size_t f_length, uint64_t tally[10]);
+
+uint32_t brothwagon_write_entry(const brothwagon_settings *settings, size_t x, size_t y, size_t direction, uint64_t pattern,
+                                double *f, size_t f_length, uint64_t tally[10]);
+
+uint32_t brothwagon_write_tally(const uint64_t tally[10], uint8_t *file, size_t file_length);
+
+uint32_t brothwagon_read_tally(const uint8_t *file, size_t file_length, uint64_t *tally, size_t tally_length);
+
 #ifdef __cplusplus
 }
 #endif

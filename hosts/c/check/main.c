@@ -29,6 +29,7 @@ int main(int words, char **word) {
     check_steps();
     check_obstacles();
     check_checkpoints();
+    check_tallies();
     printf("check: %lu calls of %d functions, %lu numbers as expected\n", calls_checked, (int)OPERATIONS, numbers_checked);
     return 0;
 }

@@ -10,12 +10,12 @@ static const uint64_t GRIDS[][2] = {{3, 2}, {2, 3}, {1, 1}, {7, 1}, {1, 7}, {2, 
 static const uint64_t FIRST[] = {UINT64_C(0x7ff0000000000001), UINT64_C(0xfff8000000000001), UINT64_C(0x3ff0000000000000),
                                  UINT64_C(0x0000000000000000), UINT64_C(0x8000000000000000)};
 
-static void hold_patterns(uint64_t first, size_t count) {
+static void hold_from(uint64_t first, size_t count) {
+    uint64_t patterns[MOST];
     for (size_t k = 0; k < count; k++) {
-        const uint64_t bits = first + k;
-        memcpy(&given[F][k], &bits, sizeof bits);
-        memcpy(&wanted[F][k], &bits, sizeof bits);
+        patterns[k] = first + k;
     }
+    hold_patterns(F, patterns, count);
 }
 
 /* Obstacles in the cells whose bits are set, and what they throw back. */
@@ -56,11 +56,11 @@ static void every_list(const uint64_t grid[2], uint64_t first) {
     for (size_t cells = 0; cells < (size_t)1 << grid[0] * grid[1]; cells++) {
         Call call = begin(grid[0], grid[1], "%u by %u, obstacles in the cells 0x%x, entries from 0x%016llx", (unsigned)grid[0],
                           (unsigned)grid[1], (unsigned)cells, (unsigned long long)first);
-        hold_patterns(first, call.length[F]);
+        hold_from(first, call.length[F]);
         put_obstacles(&call, cells);
         there_and_back(&call);
         /* Behind the list there may stand a cell as well. */
-        hold_patterns(first, call.length[F]);
+        hold_from(first, call.length[F]);
         put_obstacles(&call, cells);
         put_behind(&call);
         there_and_back(&call);

@@ -1,6 +1,7 @@
 /* Each function is refused with each number that it tests, by every fault of that number, and the first number that applies is
  * answered. */
 #include "file.h"
+#include "values.h"
 
 #include <math.h>
 
@@ -20,7 +21,7 @@ static int sides(Call *call, size_t k) {
 /* Of one buffer at a time; that of one that is not lent is no fault. */
 static int lengths(Call *call, size_t k) {
     size_t *length = &call->length[k % BUFFERS];
-    const size_t rows[] = {*length - 1, *length + 1, 0};
+    const size_t rows[] = {*length - 1, *length + 1, 0, *length + ((size_t)1 << 32)};
     if (k < BUFFERS * COUNT(rows)) {
         *length = rows[k / BUFFERS];
     }
@@ -83,8 +84,8 @@ static int steps(Call *call, size_t k) {
     return k < COUNT(rows);
 }
 
-/* Place and direction, and the place of an obstacle, the first of the list, one between and the last in turn: no function takes
- * two of the three. In the last four rows x + y nx wraps to a cell, or the low 32 bits are one. */
+/* Place and direction, and the place of an obstacle, the first of the list, one between and the last in turn: of the three
+ * write_entry alone takes two. In the last four rows x + y nx wraps to a cell, or the low 32 bits are one. */
 static int places(Call *call, size_t k) {
     const size_t most = SIZE_MAX, two_to_32 = (size_t)1 << 32;
     const size_t rows[][3] = {{3, 0, 9},    {0, 2, 10},           {most, 0, most},       {0, most, two_to_32},
@@ -137,7 +138,6 @@ static int driven_faces(Call *call, size_t k) {
 }
 
 static int lossy_faces(Call *call, size_t k) {
-    enum { P = BROTHWAGON_PERIODIC, N = BROTHWAGON_NO_SLIP, S = BROTHWAGON_SYMMETRY };
     const uint64_t rows[][4] = {{N, P, P, P}, {P, S, P, P}, {P, P, N, P}, {P, P, P, S},
                                 {S, S, N, N}, {N, S, N, N}, {S, N, S, S}};
     for (size_t face = 0; k < COUNT(rows) && face < 4; face++) {
@@ -146,11 +146,11 @@ static int lossy_faces(Call *call, size_t k) {
     return k < COUNT(rows);
 }
 
-/* ---- of the file, which has 445 bytes, the first four a count of 441 */
+/* ---- of a file: a checkpoint of 445 bytes, the first four a count of 441, or that of a tally */
 
 static int no_version(Call *call, size_t k) {
     if (k < 5) {
-        call->length[CHECKPOINT] = k;
+        call->length[BYTES] = k;
     }
     return k < 5;
 }
@@ -165,7 +165,7 @@ static int version(Call *call, size_t k) {
 
 static int sides_cut_short(Call *call, size_t k) {
     if (k < 4) {
-        call->length[CHECKPOINT] = 8 - k;
+        call->length[BYTES] = 8 - k;
     }
     return k < 4;
 }
@@ -175,7 +175,7 @@ static void make_file(Call *call, const uint64_t row[4]) {
     hold_bytes(call, 0, 4, row[2]);
     hold_bytes(call, 5, 2, row[0]);
     hold_bytes(call, 7, 2, row[1]);
-    call->length[CHECKPOINT] = row[3];
+    call->length[BYTES] = row[3];
 }
 
 /* The length is wrong as well, but for that of no cells, which is 13. */
@@ -204,30 +204,80 @@ static int count_or_length(Call *call, size_t k) {
     return k < COUNT(rows);
 }
 
+/* Of a tally's file, which has 85 bytes, the first four a count of 81: other counts, other lengths, lengths whose low bits are
+ * right, and counts that fit the length. */
+static int tally_count_or_length(Call *call, size_t k) {
+    const uint64_t rows[][2] = {
+        {80, 85}, {82, 85}, {85, 85}, {0, 85}, {0x151, 85}, {0x10051, 85}, {0x1000051, 85}, {0x51000000, 85},
+        {81, 5}, {81, 6}, {81, 13}, {81, 77}, {81, 84}, {81, 86}, {81, 93},
+        {81, 0x155}, {81, 0x10055}, {81, UINT64_C(0x100000055)},
+        {1, 5}, {73, 77}, {80, 84}, {82, 86}, {89, 93}, {441, 445}};
+    if (k < COUNT(rows)) {
+        hold_bytes(call, 0, 4, rows[k][0]);
+        call->length[BYTES] = rows[k][1];
+    }
+    return k < COUNT(rows);
+}
+
+/* A tally for the writer, and another one's numbers in a file for the reader; one number of both is off by so much. */
+static void hold_tallies(const Call *call, size_t number, uint64_t by) {
+    uint64_t lent[TALLY_NUMBERS], stored[TALLY_NUMBERS];
+    tally_of(&call->settings, given[F], lent);
+    tally_of(&call->settings, given[POST], stored);
+    lent[number] += by;
+    stored[number] += by;
+    hold_patterns(SUMS, lent, TALLY_NUMBERS);
+    for (size_t k = 0; k < TALLY_NUMBERS; k++) {
+        hold_bytes(call, 5 + 8 * k, 8, stored[k]);
+    }
+}
+
+static int sums(Call *call, size_t k) {
+    const uint64_t rows[] = {1, UINT64_C(1) << 32, UINT64_C(1) << 63, UINT64_MAX};
+    if (k < TALLY_NUMBERS * COUNT(rows)) {
+        hold_tallies(call, k % TALLY_NUMBERS, rows[k / TALLY_NUMBERS]);
+    }
+    return k < TALLY_NUMBERS * COUNT(rows);
+}
+
 typedef struct {
     uint32_t number;
     const char *of;
     int (*make)(Call *call, size_t k);
 } Fault;
 
-/* In the order in which the numbers are tested; and in that of a file that is read. */
+/* In the order in which the numbers are tested; and in that of a checkpoint file, and of a tally's. */
 static const Fault FAULTS[] = {
     {1, "the sides", sides},           {2, "the lengths", lengths},    {3, "the rates", rates},  {4, "the force", force},
     {5, "the faces", face_numbers},    {10, "the steps", steps},       {6, "the place", places}, {16, "the order", orders},
     {7, "driven faces", driven_faces}, {8, "lossy faces", lossy_faces}};
 
-static const Fault FILE_FAULTS[] = {{12, "a file's first bytes", no_version},        {13, "its version", version},
-                                    {14, "the bytes of its sides", sides_cut_short}, {1, "its sides", sides_of_file},
-                                    {15, "its count or length", count_or_length},    {2, "the lengths", lengths}};
+static const Fault CHECKPOINT_FAULTS[] = {{12, "a file's first bytes", no_version},        {13, "its version", version},
+                                          {14, "the bytes of its sides", sides_cut_short}, {1, "its sides", sides_of_file},
+                                          {15, "its count or length", count_or_length},    {2, "the lengths", lengths}};
+
+static const Fault TALLY_FAULTS[] = {{12, "a file's first bytes", no_version},
+                                     {13, "its version", version},
+                                     {15, "its count or length", tally_count_or_length},
+                                     {17, "the sums", sums},
+                                     {2, "the lengths", lengths}};
 
 static int is_fault(const Operation *operation, const Fault *fault, size_t k) {
     return tests_for(operation, fault->number) && (fault->number != 2 || operation->lent[k % BUFFERS]);
 }
 
-/* The file that a call reads, if it reads one. */
-static void lend_file(const Operation *operation, const Call *call) {
-    if (tests_for(operation, 12)) {
+/* The file that a call reads, if it reads one; and the tally that one writes. */
+static void lend_file(const Operation *operation, Call *call) {
+    if (tests_for(operation, 14)) {
         hold_file(call);
+    }
+    if (tests_for(operation, 17)) {
+        call->length[BYTES] = TALLY_FILE;
+        hold_tallies(call, 0, 0);
+    }
+    if (operation == &READ_TALLY) {
+        hold_bytes(call, 0, 4, 81);
+        hold_bytes(call, 4, 1, 1);
     }
 }
 
@@ -245,13 +295,22 @@ static void refused_with(const Operation *operation, const Fault *fault) {
     }
 }
 
+/* The first fault of a number that an operation tests. */
+static void make_first(const Operation *operation, const Fault *fault, Call *call) {
+    size_t k = 0;
+    while (!is_fault(operation, fault, k)) {
+        k++;
+    }
+    fault->make(call, k);
+}
+
 /* Faults of a number and of all that are tested after it. */
 static void refused_first(const Operation *operation, const Fault *first, const Fault *end) {
     Call call = begin(3, 2, "faults of %s and of all that is tested later", first->of);
     lend_file(operation, &call);
     for (const Fault *fault = end; fault-- > first;) {
         if (tests_for(operation, fault->number)) {
-            fault->make(&call, 0);
+            make_first(operation, fault, &call);
         }
     }
     if (tests_for(operation, first->number)) {
@@ -289,6 +348,21 @@ static int outside_and_falling(size_t order) {
     return some;
 }
 
+/* x, y and direction outside one by one: each is tested. In the last four rows the index is that of an entry all the same. */
+static void refused_entry(void) {
+    const size_t most = SIZE_MAX, two_to_32 = (size_t)1 << 32;
+    const size_t rows[][3] = {{3, 1, 8},    {2, 2, 8},         {2, 1, 9},           {most, 0, 0},      {0, most, 0},
+                              {0, 0, most}, {two_to_32, 0, 0}, {0, two_to_32, 0},   {0, 0, two_to_32}, {3, 0, 0},
+                              {0, 2, 0},    {most, 1, 0},      {2, most / 3 + 1, 0}};
+    for (size_t k = 0; k < COUNT(rows); k++) {
+        Call call = begin(3, 2, "entry %u outside", (unsigned)k);
+        call.x = rows[k][0];
+        call.y = rows[k][1];
+        call.direction = rows[k][2];
+        check(&WRITE_ENTRY, &call, 6);
+    }
+}
+
 static void refused_tolerance(void) {
     Call call = begin(3, 2, "tolerance NaN");
     call.tolerance = NAN;
@@ -305,8 +379,10 @@ static void allowed_sides(void) {
 
 void check_refusals(void) {
     for (size_t at = 0; at < OPERATIONS; at++) {
-        if (tests_for(ALL[at], 12)) {
-            refused(ALL[at], FILE_FAULTS, FILE_FAULTS + COUNT(FILE_FAULTS));
+        if (tests_for(ALL[at], 17)) {
+            refused(ALL[at], TALLY_FAULTS, TALLY_FAULTS + COUNT(TALLY_FAULTS));
+        } else if (tests_for(ALL[at], 12)) {
+            refused(ALL[at], CHECKPOINT_FAULTS, CHECKPOINT_FAULTS + COUNT(CHECKPOINT_FAULTS));
         } else {
             refused(ALL[at], FAULTS, FAULTS + COUNT(FAULTS));
         }
@@ -315,6 +391,7 @@ void check_refusals(void) {
     while (outside_and_falling(order)) {
         order++;
     }
+    refused_entry();
     refused_tolerance();
     allowed_sides();
 }

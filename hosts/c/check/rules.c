@@ -70,6 +70,16 @@ double energy_of(const brothwagon_settings *s, const double *f) {
     return sum;
 }
 
+void tally_of(const brothwagon_settings *s, const double *f, uint64_t tally[TALLY_NUMBERS]) {
+    memset(tally, 0, TALLY_NUMBERS * sizeof *tally);
+    for (size_t k = 0; k < DIRECTIONS * cells_of(s); k++) {
+        uint64_t bits;
+        memcpy(&bits, &f[k], sizeof bits);
+        tally[0] += bits;
+        tally[1 + k / cells_of(s)] += bits;
+    }
+}
+
 static void collide(const brothwagon_settings *s, const double *f, double *post, size_t c) {
     const double omega = 1.0 / (3.0 * s->nu + 0.5), rho = density_of(s, f, c);
     const double inverse = fabs(rho) < 1e-12 ? 0.0 : 1.0 / rho;

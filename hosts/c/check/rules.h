@@ -7,7 +7,7 @@
 
 #include "brothwagon.h"
 
-enum { DIRECTIONS = 9 };
+enum { DIRECTIONS = 9, TALLY_NUMBERS = 1 + DIRECTIONS };
 
 extern const double W[DIRECTIONS];
 
@@ -21,6 +21,9 @@ void velocity_of(const brothwagon_settings *s, const double *f, size_t c, double
 void velocities_of(const brothwagon_settings *s, const double *f, double *u);
 double mass_of(const brothwagon_settings *s, const double *f);
 double energy_of(const brothwagon_settings *s, const double *f);
+
+/* The sum of the patterns of all entries, and that of each direction's, wrapping at 64 bits. */
+void tally_of(const brothwagon_settings *s, const double *f, uint64_t tally[TALLY_NUMBERS]);
 
 /* Streams post into f, then applies the faces x min, x max, y min, y max. */
 void stream(const brothwagon_settings *s, const double *post, double *f);

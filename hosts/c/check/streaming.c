@@ -1,4 +1,4 @@
-/* Streaming with faces, the lossless question and the reverse. */
+/* Streaming with faces, the lossless question and the reverse; and the tally, which lossless faces keep. */
 #include "values.h"
 
 #include <math.h>
@@ -133,10 +133,25 @@ static void lossless_and_reverse(Call call) {
     done(&REVERSE, &call);
 }
 
-static void all_lossless_and_reverse(void) {
+/* The tally of the next buffer; where no canary of post is lost, its first number is that of post. */
+static void tally_after(Call call) {
+    uint64_t before[TALLY_NUMBERS];
+    const size_t lost = first_lost(&call, wanted[F]);
+    done(&STREAM_WITH_FACES, &call);
+    memcpy(given[F], wanted[F], sizeof given[F]);
+    tally_of(&call.settings, given[POST], before);
+    tally_of(&call.settings, given[F], wanted_answer);
+    if (lost == call.length[POST]) {
+        wanted_answer[0] = before[0];
+    }
+    done(&TALLY, &call);
+}
+
+static void all_that_copy(void) {
     for (size_t grid = 0; grid < COUNT(GRIDS); grid++) {
         for (size_t k = 0; k < COPYING * COPYING * COPYING * COPYING; k++) {
             lossless_and_reverse(with_faces(GRIDS[grid], k, COPYING));
+            tally_after(with_faces(GRIDS[grid], k, COPYING));
         }
     }
 }
@@ -144,5 +159,5 @@ static void all_lossless_and_reverse(void) {
 void check_streaming(void) {
     stream_with_faces();
     lossless();
-    all_lossless_and_reverse();
+    all_that_copy();
 }

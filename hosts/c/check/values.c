@@ -1,6 +1,7 @@
 #include "values.h"
 
 #include <math.h>
+#include <string.h>
 
 const uint64_t MADE_NAN = UINT64_C(0x7ff8000000000000);
 
@@ -22,6 +23,11 @@ void done(const Operation *operation, const Call *call) {
 }
 
 void hold(int buffer, size_t at, double number) { given[buffer][at] = wanted[buffer][at] = number; }
+
+void hold_patterns(int buffer, const uint64_t *patterns, size_t count) {
+    memcpy(given[buffer], patterns, 8 * count);
+    memcpy(wanted[buffer], patterns, 8 * count);
+}
 
 void hold_numbers(int buffer, size_t count) {
     for (size_t k = 0; k < count; k++) {

@@ -17,6 +17,9 @@ void done(const Operation *operation, const Call *call);
 /* A number that a buffer holds, and keeps. */
 void hold(int buffer, size_t at, double number);
 
+/* Patterns that a buffer holds, and keeps, from its first entry on. */
+void hold_patterns(int buffer, const uint64_t *patterns, size_t count);
+
 /* Small numbers of both signs, for a whole buffer. */
 void hold_numbers(int buffer, size_t count);
 

@@ -1,4 +1,4 @@
-use crate::{Refusal, ffi};
+use crate::{Refusal, Tally, ffi};
 
 /// A state, its sides and its step number: what a checkpoint file holds. The populations always fit the sides.
 ///
@@ -64,6 +64,24 @@ impl Checkpoint {
     /// The bytes of the checkpoint file.
     pub fn write(&self) -> Result<Vec<u8>, Refusal> {
         file_of(&self.words(), self.step, &self.f)
+    }
+
+    /// The tally of the state.
+    pub fn tally(&self) -> Result<Tally, Refusal> {
+        Tally::of(&self.words(), &self.f)
+    }
+
+    /// Writes one entry, given as its pattern, and moves the tally along: the state's own becomes that of the new state, and another
+    /// stays as far from it as it was.
+    pub fn write_entry(
+        &mut self,
+        x: usize,
+        y: usize,
+        direction: usize,
+        pattern: u64,
+        tally: &mut Tally,
+    ) -> Result<(), Refusal> {
+        Refusal::of(ffi::write_entry(&self.words(), x, y, direction, pattern, &mut self.f, &mut tally.0))
     }
 
     /// The sides, as settings that say nothing else.

@@ -101,6 +101,19 @@ mod c {
         ) -> u32;
         pub fn brothwagon_checkpoint_sides(file: *const u8, files: usize, answer: *mut u64) -> u32;
         pub fn brothwagon_read_checkpoint(file: *const u8, files: usize, f: *mut f64, fs: usize, answer: *mut u64) -> u32;
+        pub fn brothwagon_tally(s: *const Settings, f: *const f64, fs: usize, tally: *mut u64) -> u32;
+        pub fn brothwagon_write_entry(
+            s: *const Settings,
+            x: usize,
+            y: usize,
+            direction: usize,
+            pattern: u64,
+            f: *mut f64,
+            fs: usize,
+            tally: *mut u64,
+        ) -> u32;
+        pub fn brothwagon_write_tally(tally: *const u64, file: *mut u8, files: usize) -> u32;
+        pub fn brothwagon_read_tally(file: *const u8, files: usize, tally: *mut u64, tallies: usize) -> u32;
     }
 }
 
@@ -232,4 +245,34 @@ pub fn read_checkpoint(file: &[u8], f: &mut [f64]) -> (u32, [u64; 3]) {
     let number =
         unsafe { c::brothwagon_read_checkpoint(file.as_ptr(), file.len(), f.as_mut_ptr(), f.len(), answer.as_mut_ptr()) };
     (number, answer)
+}
+
+/// The number, and the tally of `f`: the sum of all patterns, wrapping, and those of the nine directions' planes.
+pub fn tally(s: &Settings, f: &[f64]) -> (u32, [u64; 10]) {
+    let mut tally = [UNWRITTEN; 10];
+    let number = unsafe { c::brothwagon_tally(s, f.as_ptr(), f.len(), tally.as_mut_ptr()) };
+    (number, tally)
+}
+
+/// Writes one entry of `f`, and moves the tally's first number and that plane's by the new pattern less the old.
+pub fn write_entry(
+    s: &Settings,
+    x: usize,
+    y: usize,
+    direction: usize,
+    pattern: u64,
+    f: &mut [f64],
+    tally: &mut [u64; 10],
+) -> u32 {
+    unsafe { c::brothwagon_write_entry(s, x, y, direction, pattern, f.as_mut_ptr(), f.len(), tally.as_mut_ptr()) }
+}
+
+/// Writes the tally file of these numbers into `file`.
+pub fn write_tally(tally: &[u64; 10], file: &mut [u8]) -> u32 {
+    unsafe { c::brothwagon_write_tally(tally.as_ptr(), file.as_mut_ptr(), file.len()) }
+}
+
+/// Reads a tally file into `tally`.
+pub fn read_tally(file: &[u8], tally: &mut [u64]) -> u32 {
+    unsafe { c::brothwagon_read_tally(file.as_ptr(), file.len(), tally.as_mut_ptr(), tally.len()) }
 }

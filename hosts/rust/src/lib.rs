@@ -2,8 +2,8 @@
 //!
 //! The arithmetic is the proved library's; this crate lends it buffers and turns its numbers into a [`Refusal`]. Every
 //! operation ends on every input, and a refused one leaves every buffer as it was, but for a steady run that meets a bad
-//! snapshot (number 9). A state is stored and passed on as a [`Checkpoint`]. The floating-point mode is the caller's, and must
-//! be the usual one: include/brothwagon.h says which.
+//! snapshot (number 9). A state is stored and passed on as a [`Checkpoint`], with its [`Tally`] beside it. The floating-point
+//! mode is the caller's, and must be the usual one: include/brothwagon.h says which.
 //!
 //! A cavity whose lid moves to the right:
 //!
@@ -49,6 +49,7 @@ mod obstacles;
 mod refusal;
 mod settings;
 mod study;
+mod tally;
 
 pub use checkpoint::Checkpoint;
 pub use ffi::Obstacle;
@@ -58,3 +59,4 @@ pub use level::level;
 pub use refusal::Refusal;
 pub use settings::{Collision, Face, MAGIC_BOUNCE_BACK, Settings, trt_omega_minus};
 pub use study::{BadCell, Lossless, OtherSides, Steady, Study};
+pub use tally::Tally;

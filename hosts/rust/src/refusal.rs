@@ -37,12 +37,14 @@ pub enum Refusal {
     FileLength,
     /// 16: a list of obstacles does not ascend strictly by x + y·nx.
     Order,
+    /// 17: the nine numbers of a tally do not wrap to the first.
+    Tally,
     /// A number that this crate does not know, of a library that it was not written for.
     Unknown(u32),
 }
 
 /// Every refusal with a meaning, in the order of the numbers.
-const ALL: [Refusal; 15] = [
+const ALL: [Refusal; 16] = [
     Refusal::Sides,
     Refusal::Length,
     Refusal::Rate,
@@ -58,6 +60,7 @@ const ALL: [Refusal; 15] = [
     Refusal::FileSides,
     Refusal::FileLength,
     Refusal::Order,
+    Refusal::Tally,
 ];
 
 impl Refusal {
@@ -96,6 +99,7 @@ impl Refusal {
             Refusal::FileSides => (14, "the file is cut short before the end of its sides"),
             Refusal::FileLength => (15, "the file's count, or its actual length, is wrong"),
             Refusal::Order => (16, "the list of obstacles does not ascend strictly by x + y·nx"),
+            Refusal::Tally => (17, "the nine numbers of a tally do not wrap to the first"),
             Refusal::Unknown(number) => {
                 (number, "a number that this crate does not know; the library is not the one it was written for")
             }
@@ -122,13 +126,13 @@ mod tests {
 
     #[test]
     fn each_number_has_its_refusal() {
-        let numbers: Vec<u32> = (1..=10).chain(12..=16).collect();
+        let numbers: Vec<u32> = (1..=10).chain(12..=17).collect();
         assert_eq!(ALL.map(Refusal::number)[..], numbers);
         for refusal in ALL {
             assert_eq!(Refusal::of(refusal.number()), Err(refusal));
         }
         assert_eq!(Refusal::of(0), Ok(()));
-        assert_eq!(Refusal::of(17), Err(Refusal::Unknown(17)));
+        assert_eq!(Refusal::of(18), Err(Refusal::Unknown(18)));
         assert_eq!(Refusal::of(u32::MAX).unwrap_err().number(), u32::MAX);
     }
 }

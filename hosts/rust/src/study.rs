@@ -1,4 +1,4 @@
-use crate::{Checkpoint, Obstacle, Refusal, Settings, checkpoint, ffi};
+use crate::{Checkpoint, Obstacle, Refusal, Settings, Tally, checkpoint, ffi};
 use std::error::Error;
 use std::fmt;
 
@@ -128,6 +128,11 @@ impl Study {
     /// The checkpoint file of the populations, with this step number: the study itself counts no steps.
     pub fn checkpoint_file(&self, step: u32) -> Result<Vec<u8>, Refusal> {
         checkpoint::file_of(&self.words(), step, &self.f)
+    }
+
+    /// The tally of the populations.
+    pub fn tally(&self) -> Result<Tally, Refusal> {
+        Tally::of(&self.words(), &self.f)
     }
 
     /// The populations.

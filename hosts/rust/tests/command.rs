@@ -93,6 +93,6 @@ fn a_reader_that_has_seen_enough_ends_it_quietly() {
 #[test]
 fn help_says_what_the_fingerprint_and_the_statuses_are() {
     let help = out("--help");
-    assert!(help.contains("FNV-1a") && help.contains("1 refused, 2 ") && help.contains("4 the state is ruined"));
+    assert!(help.contains("FNV-1a") && help.contains("1 refused, or `check`") && help.contains("4 the state is ruined"));
     assert_eq!(out("run --help"), help);
 }

@@ -1,7 +1,9 @@
-/* Stands before the C library in a command that is tested: writes to the file SYNCS what the command writes, syncs and renames. */
+/* Stands before the C library in a command that is tested: writes to the file SYNCS what the command writes, syncs, renames and
+ * removes, drafts that it removes apart. If KILL is a number, the command is killed when it has asked so often and asks again. */
 #define _GNU_SOURCE
 #include <dlfcn.h>
 #include <fcntl.h>
+#include <signal.h>
 #include <stdio.h>
 #include <stdlib.h>
 #include <string.h>
@@ -10,10 +12,16 @@
 typedef ssize_t Write(int, const void *, size_t);
 typedef int Sync(int);
 typedef int Rename(const char *, const char *);
+typedef int Unlink(const char *);
 
 static void *real(const char *name) { return dlsym(RTLD_NEXT, name); }
 
 static void say(const char *what, const char *path, const char *then) {
+    static int said = 0;
+    const char *kill = getenv("KILL");
+    if (kill && *kill && said++ == atoi(kill)) {
+        raise(SIGKILL);
+    }
     char line[9000];
     const int length = snprintf(line, sizeof line, "%s %s%s%s\n", what, path, *then ? " " : "", then);
     const int to = open(getenv("SYNCS"), O_WRONLY | O_APPEND | O_CREAT, 0666);
@@ -48,4 +56,11 @@ int fsync(int file) {
 int rename(const char *from, const char *to) {
     say("rename", from, to);
     return ((Rename *)real("rename"))(from, to);
+}
+
+int unlink(const char *path) {
+    if (!strstr(path, ".unfinished") && access(path, F_OK) == 0) {
+        say("remove", path, "");
+    }
+    return ((Unlink *)real("unlink"))(path);
 }

@@ -5,14 +5,12 @@ use Rattle.settings.proofs.file.Tie as tie
 
 returns : tie.Need-returns
 returns c =
-    let version = c .before .before in
-    let cut = version .before .before in
+    let cut = c .before in
     let sides = cut .before .before in
     let count = sides .before in
     let tests = count .before in
     rw (
-      c .number-if5 .ensures,
-      version .number-if4 .ensures,
+      c .versioned .ensures,
       cut .number-if3 .ensures,
       sides .number-if2 .ensures,
       count .number-if .ensures,
@@ -24,7 +22,6 @@ pub file-spec : {M : Type 1} → statement M
 file-spec =
     tie.close
     (tie.spec
-    (λ c κs. search needs)
     (λ c κs. search needs)
     (λ c κs. search needs)
     (λ c κs. search needs)

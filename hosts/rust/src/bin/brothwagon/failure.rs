@@ -18,6 +18,10 @@ pub enum Failure {
 }
 
 impl Failure {
+    pub fn unreadable(why: impl fmt::Display) -> Failure {
+        Failure::Unreadable(why.to_string())
+    }
+
     pub fn unsaved(path: &Path, why: impl fmt::Display) -> Failure {
         Failure::Unsaved(format!("nothing can be saved as {}: {why}", path.display()))
     }
@@ -31,11 +35,25 @@ impl Failure {
         matches!(self, Failure::Unwritten(why) if why.kind() == ErrorKind::BrokenPipe)
     }
 
-    /// A refusal and a ruined state are said with the path of the file that they are about.
-    pub fn about(self, path: &str) -> Failure {
+    /// This failure with the path of the file that it is about.
+    pub fn about(self, path: impl fmt::Display) -> Failure {
+        self.reworded(|why| format!("{path}: {why}"))
+    }
+
+    /// This failure, and beside it what kept its answer from being written.
+    pub fn beside(self, told: Result<(), Failure>) -> Failure {
+        match told {
+            Err(failure) if !failure.unread() => self.reworded(|why| format!("{why}; {failure}")),
+            _ => self,
+        }
+    }
+
+    /// What is not read, refused or ruined, in other words; what is not saved or written names its file already, or has none.
+    fn reworded(self, words: impl FnOnce(String) -> String) -> Failure {
         match self {
-            Failure::Refused(why) => Failure::Refused(format!("{path}: {why}")),
-            Failure::Ruined(why) => Failure::Ruined(format!("{path}: {why}")),
+            Failure::Unreadable(why) => Failure::Unreadable(words(why)),
+            Failure::Refused(why) => Failure::Refused(words(why)),
+            Failure::Ruined(why) => Failure::Ruined(words(why)),
             other => other,
         }
     }

@@ -8,8 +8,5 @@ pub fn judged(study: &Study, step: u64, say: impl FnOnce() -> Result<(), Failure
     let Some(cell) = study.first_bad_cell()? else { return say() };
     let why = "a cell has a density or a velocity component that is not finite";
     let ruined = Failure::ruined(format!("the state at step {step} is ruined: {why}"), cell);
-    match say() {
-        Err(failure) if !failure.unread() => Err(Failure::Ruined(format!("{ruined}; {failure}"))),
-        _ => Err(ruined),
-    }
+    Err(ruined.beside(say()))
 }

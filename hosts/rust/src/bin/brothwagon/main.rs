@@ -1,9 +1,12 @@
 //! The command `brothwagon`: runs a study file on the proved library.
 
 mod answer;
+mod check;
 mod failure;
 mod judged;
+mod names;
 mod options;
+mod pair;
 mod progress;
 mod read;
 mod run;
@@ -15,6 +18,7 @@ mod whole;
 
 use answer::line;
 use brothwagon::{Lossless, Study, level};
+use check::check;
 use failure::Failure;
 use options::{Command, Options};
 use run::run;
@@ -55,6 +59,7 @@ fn command(words: &[String], out: &mut impl Write) -> Result<(), Failure> {
         ["run", ref words @ ..] => start(Command::Run, words, out),
         ["steady", ref words @ ..] => start(Command::Steady, words, out),
         ["show", path] => show(path, out),
+        ["check", ref words @ ..] => check(words, out),
         ["lossless", path] => lossless(path, out),
         ["version" | "--version" | "-V"] => version(out),
         _ => Err(Failure::Unreadable(format!("`{}` is not understood; brothwagon --help lists the commands", words.join(" ")))),
@@ -77,9 +82,8 @@ fn help(out: &mut impl Write) -> Result<(), Failure> {
 }
 
 fn lossless(path: &str, out: &mut impl Write) -> Result<(), Failure> {
-    let file = read::study(path)?;
-    let answer = Study::new(file.settings).and_then(|study| study.lossless());
-    match answer.map_err(|refusal| Failure::from(refusal).about(path))? {
+    let answer = read::study(path).and_then(|file| Ok(Study::new(file.settings)?.lossless()?));
+    match answer.map_err(|failure| failure.about(path))? {
         Lossless::Lossless => writeln!(out, "lossless")?,
         Lossless::Lossy { x, y, direction } => writeln!(out, "lossy {x} {y} {direction}")?,
     }

@@ -1,7 +1,9 @@
 //! The words after `run` and `steady`.
 
 use crate::failure::Failure;
+use crate::names;
 use std::fmt;
+use std::path::Path;
 
 /// The commands that run a study.
 #[derive(Clone, Copy, Debug, Default, PartialEq)]
@@ -102,8 +104,8 @@ impl<'a> Draft<'a> {
             (None, Some(_)) => return Err("--into asks for --every N".to_string()),
             (None, None) => None,
         };
-        if self.save.is_some() && self.save == self.study {
-            return Err("--save would replace the study".to_string());
+        if let Some(save) = self.save {
+            self.test_save(save)?;
         }
         let study = self.study.ok_or_else(|| format!("{} takes a study; brothwagon --help says more", self.command))?;
         let steps = |word: &str| word.parse().map_err(|_| format!("--steps takes a whole number, not `{word}`"));
@@ -114,6 +116,18 @@ impl<'a> Draft<'a> {
             save: self.save.map(str::to_string),
             every,
         })
+    }
+
+    /// Whether the end can have this name: neither the checkpoint nor its tally may replace the study.
+    fn test_save(&self, save: &str) -> Result<(), String> {
+        if names::tallied(save).is_some() {
+            return Err(format!("--save takes a checkpoint's name, not `{save}`: a tally's name ends in .tally"));
+        }
+        let names = [Path::new(save), &names::tally_of(Path::new(save))];
+        match self.study {
+            Some(study) if names.contains(&Path::new(study)) => Err("--save would replace the study".to_string()),
+            _ => Ok(()),
+        }
     }
 }
 
@@ -185,6 +199,8 @@ mod tests {
         assert_eq!(wrong("a --steps -1"), "--steps takes a whole number, not `-1`");
         assert_eq!(wrong("a --every 0 --into b"), "--every takes a whole number, at least 1, not `0`");
         assert_eq!(wrong("a --save a"), "--save would replace the study");
+        assert_eq!(wrong("a.tally --save a"), "--save would replace the study");
+        assert_eq!(wrong("a --save b.tally"), "--save takes a checkpoint's name, not `b.tally`: a tally's name ends in .tally");
         assert_eq!(wrong("a --every 1"), "--every asks for --into FOLDER");
         assert_eq!(wrong("a --into b"), "--into asks for --every N");
     }

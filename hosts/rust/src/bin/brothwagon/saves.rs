@@ -1,10 +1,10 @@
-//! The checkpoints that a run saves.
+//! The checkpoints that a run saves, each with its tally.
 
 use crate::answer::line;
 use crate::failure::Failure;
 use crate::options::{Every, Options};
 use crate::progress::Progress;
-use crate::whole;
+use crate::{names, pair, whole};
 use brothwagon::Study;
 use std::fs;
 use std::io::{self, ErrorKind, Write};
@@ -31,7 +31,7 @@ impl<'a> Saves<'a> {
         if let Some(every) = self.every {
             prepare_folder(Path::new(&every.into))?;
         }
-        self.end.map_or(Ok(()), |path| whole::test(path).map_err(|why| Failure::unsaved(path, why)))
+        self.end.map_or(Ok(()), pair::test)
     }
 
     /// Steps from this one to the next that is saved along the way, if there is one.
@@ -63,7 +63,7 @@ impl<'a> Saves<'a> {
 
 impl Every {
     fn path(&self, step: u64) -> PathBuf {
-        Path::new(&self.into).join(format!("step-{step:010}.checkpoint"))
+        Path::new(&self.into).join(names::along(step))
     }
 }
 
@@ -78,5 +78,5 @@ fn prepare_folder(folder: &Path) -> Result<(), Failure> {
 fn save(study: &Study, step: u64, path: &Path, progress: &Progress) -> Result<(), Failure> {
     progress.saving(path);
     let step = u32::try_from(step).expect("the last step number was tested");
-    whole::write(path, &study.checkpoint_file(step)?).map_err(|why| Failure::unsaved(path, why))
+    pair::write(path, &study.checkpoint_file(step)?, &study.tally()?.write()?)
 }

@@ -3,12 +3,13 @@
 use crate::answer::{line, state, title};
 use crate::failure::Failure;
 use crate::judged::judged;
-use crate::read;
+use crate::pair::Pair;
 use brothwagon::{Settings, Study};
 use std::io::Write;
 
 pub fn show(path: &str, out: &mut impl Write) -> Result<(), Failure> {
-    let checkpoint = read::checkpoint(path)?;
+    let pair = Pair::read(path.as_ref())?;
+    let (tally, checkpoint) = (pair.said(), pair.checkpoint);
     let (nx, ny) = checkpoint.sides();
     let step = checkpoint.step();
     // A checkpoint has no settings but its sides: of the others, the density asks for none and the velocity for the force.
@@ -17,6 +18,7 @@ pub fn show(path: &str, out: &mut impl Write) -> Result<(), Failure> {
     let said = judged(&study, step.into(), || {
         title(out, path, &study)?;
         line(out, "step", step)?;
+        line(out, "tally", tally)?;
         state(out, &study)
     });
     said.map_err(|failure| failure.about(path))

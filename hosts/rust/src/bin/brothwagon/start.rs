@@ -3,6 +3,7 @@
 use crate::answer::line;
 use crate::failure::Failure;
 use crate::options::Options;
+use crate::pair::Pair;
 use crate::read;
 use brothwagon::{Checkpoint, OtherSides, Study, StudyFile};
 use std::io::{self, Write};
@@ -11,19 +12,25 @@ use std::io::{self, Write};
 pub struct Start {
     pub file: StudyFile,
     pub study: Study,
-    /// The checkpoint's step number.
-    from: Option<u32>,
+    from: Option<From>,
+}
+
+/// The checkpoint that a run started from.
+struct From {
+    step: u32,
+    /// What is said of its tally.
+    tally: &'static str,
 }
 
 impl Start {
     pub fn of(options: &Options) -> Result<Start, Failure> {
-        let file = read::study(&options.study)?;
+        let file = read::study(&options.study).map_err(|failure| failure.about(&options.study))?;
         let (study, from) = match &options.from {
             None => (file.started().map_err(Failure::from), None),
             Some(path) => {
-                let checkpoint = read::checkpoint(path)?;
-                let step = checkpoint.step();
-                (loaded(&file, checkpoint, path), Some(step))
+                let pair = Pair::read(path.as_ref())?;
+                let from = From { step: pair.checkpoint.step(), tally: pair.said() };
+                (loaded(&file, pair.checkpoint, path), Some(from))
             }
         };
         Ok(Start { study: study.map_err(|failure| failure.about(&options.study))?, file, from })
@@ -31,14 +38,15 @@ impl Start {
 
     /// The number of the step that the study is at.
     pub fn step(&self) -> u32 {
-        self.from.unwrap_or(0)
+        self.from.as_ref().map_or(0, |from| from.step)
     }
 
-    /// Says, of so many steps from a checkpoint, from where to where they went.
+    /// Says, of so many steps from a checkpoint, from where to where they went, and whether it had a tally.
     pub fn answer(&self, out: &mut impl Write, steps: u64) -> io::Result<()> {
-        let Some(from) = self.from else { return Ok(()) };
-        line(out, "from step", from)?;
-        line(out, "to step", u64::from(from) + steps)
+        let Some(From { step, tally }) = self.from else { return Ok(()) };
+        line(out, "from step", step)?;
+        line(out, "from tally", tally)?;
+        line(out, "to step", u64::from(step) + steps)
     }
 }
 

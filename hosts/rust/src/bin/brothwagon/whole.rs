@@ -1,23 +1,43 @@
 //! Files that are written whole or not at all.
 
+use crate::names;
 use std::fs::{self, File};
 use std::io::{self, ErrorKind, Write};
 use std::path::{MAIN_SEPARATOR, Path, PathBuf};
-use std::process;
 
-/// Puts these bytes under a name, in place of the file that was there. If that fails, or the process is killed, the name still
-/// has what it had.
-pub fn write(path: &Path, bytes: &[u8]) -> io::Result<()> {
-    let target = resolved(path)?;
-    let mut draft = Draft::in_folder(folder(&target))?;
-    draft.file.write_all(bytes)?;
-    draft.file.sync_all()?;
-    draft.rename(&target)
+/// A file that is whole on the disk, and has yet to take its name from the one that was there. Until then, or if the process is
+/// killed, the name still has what it had.
+pub struct Written<'a> {
+    draft: Draft,
+    name: &'a Path,
+}
+
+impl Written<'_> {
+    pub fn new<'a>(name: &'a Path, bytes: &[u8]) -> io::Result<Written<'a>> {
+        let mut draft = Draft::beside(name)?;
+        draft.file.write_all(bytes)?;
+        draft.file.sync_all()?;
+        Ok(Written { draft, name })
+    }
+
+    pub fn rename(self) -> io::Result<()> {
+        self.draft.rename(self.name)
+    }
+}
+
+/// Removes a file, if there is one.
+pub fn remove(path: &Path) -> io::Result<()> {
+    match fs::remove_file(path) {
+        // The name is gone from the disk once the folder is written.
+        Ok(()) => File::open(folder(path))?.sync_all(),
+        Err(why) if why.kind() == ErrorKind::NotFound => Ok(()),
+        Err(why) => Err(why),
+    }
 }
 
 /// Whether a file can be put under that name: makes a draft there, and removes it.
-pub fn test(path: &Path) -> io::Result<()> {
-    Draft::in_folder(folder(&resolved(path)?)).map(drop)
+pub fn test(name: &Path) -> io::Result<()> {
+    Draft::beside(name).map(drop)
 }
 
 /// Whether files can be put into that folder.
@@ -25,16 +45,24 @@ pub fn test_folder(path: &Path) -> io::Result<()> {
     Draft::in_folder(path).map(drop)
 }
 
-/// The file to be replaced: where a link leads. A folder or a device must not be, nor what someone made read-only.
-fn resolved(path: &Path) -> io::Result<PathBuf> {
-    match fs::metadata(path) {
+/// The file that a name stands for: where it leads, if it is a link.
+pub fn behind(name: &Path) -> PathBuf {
+    let led = if name.is_symlink() { fs::canonicalize(name).ok() } else { None };
+    led.unwrap_or_else(|| name.to_path_buf())
+}
+
+/// Whether a file may take that name, from another or from a link. A folder or a device must not give way, nor what someone made
+/// read-only.
+fn may_take(name: &Path) -> io::Result<()> {
+    match fs::symlink_metadata(name) {
         Ok(there) if there.is_dir() => Err(ErrorKind::IsADirectory.into()),
+        Ok(there) if there.is_symlink() => Ok(()),
         Ok(there) if !there.is_file() => Err(io::Error::other("it is no plain file")),
         Ok(there) if there.permissions().readonly() => Err(io::Error::other("it is read-only")),
-        Ok(_) => fs::canonicalize(path),
+        Ok(_) => Ok(()),
         Err(why) if why.kind() != ErrorKind::NotFound => Err(why),
-        Err(_) if path.to_string_lossy().ends_with(MAIN_SEPARATOR) => Err(ErrorKind::IsADirectory.into()),
-        Err(_) => Ok(path.to_path_buf()),
+        Err(_) if name.to_string_lossy().ends_with(MAIN_SEPARATOR) => Err(ErrorKind::IsADirectory.into()),
+        Err(_) => Ok(()),
     }
 }
 
@@ -54,11 +82,17 @@ struct Draft {
 }
 
 impl Draft {
+    /// One that may take that name.
+    fn beside(name: &Path) -> io::Result<Draft> {
+        may_take(name)?;
+        Draft::in_folder(folder(name))
+    }
+
     fn in_folder(name: &Path) -> io::Result<Draft> {
         let folder = File::open(name)?;
         let mut number = 0;
         loop {
-            let path = name.join(format!("brothwagon-{}-{number}.unfinished", process::id()));
+            let path = name.join(names::draft(number));
             match File::create_new(&path) {
                 Ok(file) => return Ok(Draft { file, path, folder, renamed: false }),
                 // That of a killed process which had the same id.
