@@ -34,10 +34,11 @@ pub struct Settings {
     pub x_max: Face,
     pub y_min: Face,
     pub y_max: Face,
+    pub floor: f64,
 }
 
-// The library reads the settings as 19 words.
-const _: () = assert!(size_of::<Settings>() == 19 * 8);
+// The library reads the settings as 20 words.
+const _: () = assert!(size_of::<Settings>() == 20 * 8);
 
 /// A cell of the grid that an obstacle fills.
 #[repr(C)]

@@ -1,5 +1,5 @@
 use crate::obstacles::{self, Block, OBSTACLE};
-use crate::{Collision, Face, MAGIC_BOUNCE_BACK, Obstacle, Refusal, Settings, Study};
+use crate::{Collision, FLOOR, Face, MAGIC_BOUNCE_BACK, Obstacle, Refusal, Settings, Study};
 use std::error::Error;
 use std::fmt;
 
@@ -50,7 +50,8 @@ impl fmt::Display for Wrong {
 
 impl Error for Wrong {}
 
-const NAMES: &str = "sides, viscosity, force, collision, x-min, x-max, y-min, y-max, obstacle, start, steps or steady";
+const NAMES: &str =
+    "sides, viscosity, force, collision, floor, x-min, x-max, y-min, y-max, obstacle, start, steps or steady";
 
 const FACE: &str = "periodic, no-slip, moving-wall UX UY, symmetry, velocity UX UY or pressure DENSITY";
 
@@ -67,6 +68,7 @@ struct Draft {
     viscosity: Option<f64>,
     force: Option<(f64, f64)>,
     collision: Option<Rates>,
+    floor: Option<f64>,
     x_min: Option<Face>,
     x_max: Option<Face>,
     y_min: Option<Face>,
@@ -133,6 +135,7 @@ impl Draft {
             "collision" => {
                 once(&mut self.collision, collision(values), name, "collision bgk, mrt, trt RATE or trt magic NUMBER")
             }
+            "floor" => once(&mut self.floor, single(values, number), name, "floor NUMBER"),
             "x-min" => once(&mut self.x_min, face(values), name, &format!("x-min {FACE}")),
             "x-max" => once(&mut self.x_max, face(values), name, &format!("x-max {FACE}")),
             "y-min" => once(&mut self.y_min, face(values), name, &format!("y-min {FACE}")),
@@ -175,6 +178,7 @@ impl Draft {
                 x_max: self.x_max.unwrap_or_default(),
                 y_min: self.y_min.unwrap_or_default(),
                 y_max: self.y_max.unwrap_or_default(),
+                floor: self.floor.unwrap_or(FLOOR),
             },
             magic,
             obstacles,
