@@ -43,7 +43,8 @@ bytesBad nx ny head len = not (eqb len (head + 72 * (nx * ny)))
 unfoldable pub sizeBad : ℕ → ℕ → Bool
 sizeBad size len = not (eqb len size)
 
--- ---- 3: τ = 3.0·ν + 0.5 is not finite or below 0.5; or a Trt minus rate is not finite, below 0 or above 2
+-- ---- 3: τ = 3.0·ν + 0.5 is not finite or below 0.5; a Trt minus rate is not finite, below 0 or above 2; or the floor is not
+-- positive
 
 abbrev pub tauOf : Float → Float
 tauOf nu = c3 ⊗ nu ⊕ c½
@@ -58,6 +59,13 @@ rateBad (Trt rate) = notFinite rate || lt rate c0 || lt c2 rate
 
 unfoldable pub ratesBad : Settings → Bool
 ratesBad s = tauBad (tauOf (s .nu)) || rateBad (s .collision)
+
+-- not finite, or not above 0
+unfoldable pub notPositive : Float → Bool
+notPositive x = notFinite x || not (lt c0 x)
+
+abbrev pub floorBad : Settings → Bool
+floorBad s = notPositive (s .floor)
 
 -- ---- 4: a force component is not finite
 
@@ -81,7 +89,7 @@ faceBad a d (MovingWall u0 u1) = notFinite u0 || notFinite u1
 faceBad a d Symmetry = false
 faceBad a d (Velocity u0 u1) =
     let un = along u0 u1 (normal a d) in notFinite u0 || notFinite u1 || eq (c1 ⊖ un) c0
-faceBad a d (Pressure density) = notFinite density || not (lt c0 density)
+faceBad a d (Pressure density) = notPositive density
 
 unfoldable pub facesBad : Settings → Bool
 facesBad s =
