@@ -34,6 +34,7 @@ pub struct Settings {
     pub x_max: Face,
     pub y_min: Face,
     pub y_max: Face,
+    /// By default 0.0, which is refused with 3 where a density is held to it.
     pub floor: f64,
 }
 

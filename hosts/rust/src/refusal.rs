@@ -8,7 +8,8 @@ pub enum Refusal {
     Sides,
     /// 2: a lent buffer has the wrong length.
     Length,
-    /// 3: the relaxation time or a Trt minus rate is outside its range.
+    /// 3: the relaxation time or a Trt minus rate is outside its range, or the floor is not finite or not above 0.
+    /// Readings of velocities and of the kinetic energy test the floor alone.
     Rate,
     /// 4: a force component is not finite.
     Force,
@@ -82,9 +83,11 @@ impl Refusal {
         match self {
             Refusal::Sides => (1, "a side or the cell count is outside its range (sides 1 to 4,096, at most 1,048,576 cells)"),
             Refusal::Length => (2, "a lent buffer has the wrong length"),
-            Refusal::Rate => {
-                (3, "3·viscosity + 0.5 is not finite or below 0.5, or a Trt minus rate is not finite, below 0 or above 2")
-            }
+            Refusal::Rate => (
+                3,
+                "3·viscosity + 0.5 is not finite or below 0.5, a Trt minus rate is not finite, below 0 or above 2, \
+                 or the floor is not finite or not above 0",
+            ),
             Refusal::Force => (4, "a force component is not finite"),
             Refusal::Face => {
                 (5, "a face number is not finite, a Pressure density is not above 0, or a Velocity face has 1 - un equal to 0")

@@ -3,7 +3,7 @@ use crate::ffi;
 /// The magic number that puts a wall halfway between cells at every viscosity: 3/16.
 pub const MAGIC_BOUNCE_BACK: f64 = 3.0 / 16.0;
 
-/// The floor of the solver's source, which suits every study without thin regions.
+/// The floor of the solver's source: it suits every study without thin regions.
 pub const FLOOR: f64 = 1e-12;
 
 /// What one face of the grid does.
@@ -87,7 +87,8 @@ pub struct Settings {
     pub y_min: Face,
     /// The face at y = ny - 1.
     pub y_max: Face,
-    /// A density below it is too small to divide by: such a cell is at rest.
+    /// A cell whose density is below it reads as at rest, and one whose density is smaller in magnitude collides as at rest. It
+    /// must be finite and above 0.
     pub floor: f64,
 }
 
