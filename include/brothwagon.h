@@ -5,8 +5,8 @@
  *    0  done
  *    1  a side or the cell count is outside its range: sides 1 to 4,096, at most 1,048,576 cells
  *    2  a lent buffer has the wrong length
- *    3  3 nu + 0.5 is not finite or below 0.5; a Trt rate is not finite, below 0 or above 2; or the floor is not finite or not
- *       above 0
+ *    3  3 nu + 0.5 is not finite or below 0.5; a Trt rate is not finite, below 0 or above 2;
+ *       or the floor is not finite or not above 0
  *    4  a force component is not finite
  *    5  a face number is not finite; a Pressure density is not above 0; or a Velocity face has 1 - un equal to 0
  *    6  x, y or direction outside, or the place of any obstacle of a list
@@ -90,7 +90,7 @@ typedef struct {
     uint64_t collision;
     double rate; /* of Trt alone */
     brothwagon_face x_min, x_max, y_min, y_max;
-    double floor; /* a density below it is too small to divide by; 1e-12 unless the study has thin regions */
+    double floor; /* a smaller density is not divided by: see velocity and step; 1e-12 unless the study has thin regions */
 } brothwagon_settings; /* 20 words of 8 bytes */
 
 /* A cell of the grid that an obstacle fills. */
@@ -109,12 +109,12 @@ uint32_t brothwagon_density(const brothwagon_settings *settings, const double *f
                             double rho[1]);
 
 /* The velocity of one cell, half the force included; (0, 0) where the density is below the floor, negative ones included.
- * Numbers 1, 2, 3, 4, 6, of 3 the floor alone; then u is (0, 0). */
+ * Numbers 1, 2, 3 (the floor alone), 4, 6; then u is (0, 0). */
 uint32_t brothwagon_velocity(const brothwagon_settings *settings, const double *f, size_t f_length, size_t x, size_t y,
                              double u[2]);
 
 /* The velocity of every cell, into u.
- * Numbers 1, 2, 3, 4, of 3 the floor alone; then u is as it was. */
+ * Numbers 1, 2, 3 (the floor alone), 4; then u is as it was. */
 uint32_t brothwagon_velocity_field(const brothwagon_settings *settings, const double *f, size_t f_length, double *u,
                                    size_t u_length);
 
@@ -123,7 +123,7 @@ uint32_t brothwagon_velocity_field(const brothwagon_settings *settings, const do
 uint32_t brothwagon_total_mass(const brothwagon_settings *settings, const double *f, size_t f_length, double mass[1]);
 
 /* The sum of 0.5 rho |u|^2 over all cells.
- * Numbers 1, 2, 3, 4, of 3 the floor alone; then energy is 0. */
+ * Numbers 1, 2, 3 (the floor alone), 4; then energy is 0. */
 uint32_t brothwagon_kinetic_energy(const brothwagon_settings *settings, const double *f, size_t f_length, double energy[1]);
 
 /* Where all entries of one direction stand in f: part is {start, count}.
@@ -146,8 +146,8 @@ uint32_t brothwagon_lossless(const brothwagon_settings *settings, uint64_t answe
 uint32_t brothwagon_reverse(const brothwagon_settings *settings, const double *f, size_t f_length, double *post,
                             size_t post_length);
 
-/* One step: collides f into post, then streams post into f with faces. post keeps the post-collision state. A cell whose density
- * is smaller in magnitude than the floor collides as at rest.
+/* One step: collides f into post, then streams post into f with faces. post keeps the post-collision state. A cell collides as
+ * at rest where the magnitude of its density is below the floor.
  * Numbers 1, 2, 3, 4, 5; then f and post are as they were. */
 uint32_t brothwagon_step(const brothwagon_settings *settings, double *f, size_t f_length, double *post, size_t post_length);
 
