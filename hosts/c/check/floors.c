@@ -80,6 +80,21 @@ static void steps(double floor, double force) {
     done(&RUN, &call);
 }
 
+/* One cell of density 36, with the equilibrium of rest and a momentum of 6 along x besides. Below the floor it collides as at
+ * rest: so much of the momentum is left. */
+static void step_at_rest(const char *name, uint64_t collision, double left) {
+    const double rest[DIRECTIONS] = {16, 4, 4, 4, 4, 1, 1, 1, 1}, along_x[DIRECTIONS] = {0, 1, 0, -1, 0, 1, -1, -1, 1};
+    Call call = begin(1, 1, "%s below the floor", name);
+    for (size_t i = 0; i < DIRECTIONS; i++) {
+        given[F][i] = rest[i] + along_x[i];
+        wanted[F][i] = wanted[POST][i] = rest[i] + left * along_x[i];
+    }
+    call.settings.collision = collision;
+    call.settings.rate = 1.0;
+    call.settings.floor = 37.0;
+    done(&STEP, &call);
+}
+
 void check_floors(void) {
     for (size_t k = 0; k < COUNT(FLOORS); k++) {
         readings(FLOORS[k]);
@@ -87,4 +102,8 @@ void check_floors(void) {
         steps(FLOORS[k], 0.0);
         steps(FLOORS[k], FLOORS[k]);
     }
+    /* With tau 2, Bgk relaxes it by half; Trt has the rate 1; Mrt relaxes no momentum. */
+    step_at_rest("Bgk", BROTHWAGON_BGK, 0.5);
+    step_at_rest("Trt", BROTHWAGON_TRT, 0.0);
+    step_at_rest("Mrt", BROTHWAGON_MRT, 1.0);
 }

@@ -1,6 +1,7 @@
 /* The step, the run and the steady run. */
 #include "values.h"
 
+#include <float.h>
 #include <math.h>
 #include <string.h>
 
@@ -45,8 +46,8 @@ static void step_bounds(void) {
     }
 }
 
-/* Below all densities of the flow below, between them, and above them all. */
-static const double FLOORS[] = {5e-324, 1e-12, 10.0, 1e300};
+/* The least floor and the usual one, one between the densities of the flow below, and the highest. */
+static const double FLOORS[] = {5e-324, 1e-12, 10.0, DBL_MAX};
 
 /* A flow between walls with a force along both axes, which the plain reading steps on. */
 static Call flow(const char *name, uint64_t steps, double floor) {
