@@ -65,7 +65,7 @@ fn held(study: &Study) -> Vec<u64> {
 
 #[test]
 fn the_floor_of_the_source_is_the_default() {
-    assert_eq!((FLOOR, Settings::new(3, 2, 0.1).floor), (1e-12, 1e-12));
+    assert_eq!((FLOOR, Settings::new(3, 2, 0.1).floor, ffi::Settings::default().floor), (1e-12, 1e-12, 1e-12));
 }
 
 #[test]
@@ -277,7 +277,8 @@ fn a_run_goes_by_the_floor_of_its_study() {
 fn a_bad_floor_is_refused_before_the_first_step() {
     for floor in ["nan", "inf", "-inf", "0", "-0", "-1e-12", "-5e-324"] {
         let bad = study("bad-floor", &format!("sides 2 2\nviscosity 1\nsteps 5\nforce inf 0\nfloor {floor}\n"));
-        for words in [format!("run {bad}"), format!("run {bad} --steps 0"), format!("steady {bad}")] {
+        // Where the end is to be saved is looked at later.
+        for words in [format!("run {bad}"), format!("run {bad} --steps 0 --save MADE/missing/end"), format!("steady {bad}")] {
             let (status, said) = failed(&words);
             assert_eq!(status, Some(1), "{words}, {floor}");
             assert!(said.contains("bad-floor.study: refused with number 3: "), "{words}, {floor}: {said}");
