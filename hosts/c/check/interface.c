@@ -49,7 +49,7 @@ void fields_have_types(brothwagon_face *face, brothwagon_settings *settings, bro
 
 void fields_have_types(brothwagon_face *face, brothwagon_settings *settings, brothwagon_obstacle *obstacle) {
     uint64_t *const words[] = {&face->kind, &settings->nx, &settings->ny, &settings->collision, &obstacle->x, &obstacle->y};
-    double *const numbers[] = {&face->a,      &face->b,      &settings->nu,   &settings->fx,
+    double *const numbers[] = {&face->a,      &face->b,        &settings->nu,   &settings->fx,
                                &settings->fy, &settings->rate, &settings->floor};
     brothwagon_face *const faces[] = {&settings->x_min, &settings->x_max, &settings->y_min, &settings->y_max};
     (void)words, (void)numbers, (void)faces;
