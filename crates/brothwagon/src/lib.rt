@@ -1,4 +1,4 @@
-// The library for hosts in other languages: each function asks one operation, and takes settings as nineteen words.
+// The library for hosts in other languages: each function asks one operation, and takes settings as twenty words.
 // include/brothwagon.h is its face in C. What a host lends for a small answer is always written, with zeros on a refusal.
 use checkpoint::Stored;
 use lossless::Answer;
