@@ -3,6 +3,7 @@
 use crate::case::{Case, Start};
 use crate::comparison::{Comparison, Difference};
 use brothwagon::ffi;
+use source::FLOOR;
 
 /// So many obstacles are left out one by one.
 const FEW: usize = 16;
@@ -47,6 +48,7 @@ fn simpler(comparison: &mut Comparison, case: &Case) -> Option<(Case, Difference
     with(&|case| (case.settings.fx, case.settings.fy) = (0.0, 0.0));
     with(&|case| case.settings.fx = 0.0);
     with(&|case| case.settings.fy = 0.0);
+    with(&|case| case.settings.floor = FLOOR);
     with(&|case| (case.settings.collision, case.settings.rate, case.magic) = (0, 0.0, None));
     with(&|case| (case.settings.nu, case.magic) = (0.5, None));
     with(&|case| case.start = Start::Flow);
