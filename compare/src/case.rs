@@ -67,6 +67,10 @@ impl Operation {
         }
     }
 
+    pub fn reads_velocities(self) -> bool {
+        matches!(self, Operation::Velocity | Operation::VelocityField | Operation::KineticEnergy | Operation::RunToSteadyState)
+    }
+
     pub fn collides(self) -> bool {
         matches!(self, Operation::Step | Operation::Run | Operation::RunToSteadyState)
     }
