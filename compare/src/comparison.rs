@@ -43,9 +43,9 @@ impl Comparison {
 
     /// One call on both sides' buffers as they are.
     fn compare_call(&mut self, case: &Case) -> Result<Seen, Difference> {
-        let before = self.listed;
+        let (before, mut floors) = (self.listed, self.floors);
         if rules::number(case) == 0 {
-            self.floors.count(case, &self.rust.0[F]);
+            floors.count(case, &self.rust.0[F]);
         }
         let wanted = expected(case, &mut self.rust, &mut self.listed);
         let got = call(case, &mut self.port);
@@ -55,6 +55,7 @@ impl Comparison {
             entries += self.same_buffer(case, &wanted, buffer)?;
         }
         if wanted.number == 0 {
+            self.floors = floors;
             match case.operation {
                 Operation::Reverse => entries += self.streams_back(case)?,
                 // The Rust's own run knows nothing of a sum that was put right on the way.

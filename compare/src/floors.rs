@@ -2,19 +2,22 @@
 
 use crate::case::{Case, Operation};
 use source::FLOOR;
+use std::ops::Range;
 
-/// What was met of floors other than the source's.
-#[derive(Default)]
+/// What was met of floors other than the source's, by calls that answered 0.
+#[derive(Clone, Copy, Default)]
 pub struct Floors {
-    /// The calls that were done, and test a density.
+    /// Those that tested a density.
     pub calls: u64,
     /// What such a floor changes of a call's first reading, and of its first collision.
     pub read: Changed,
     pub collided: Changed,
+    /// Cells whose density is the floor, or its negative, to the last bit.
+    pub exact: u64,
 }
 
 /// Cells that the source's floor would take otherwise.
-#[derive(Default)]
+#[derive(Clone, Copy, Default)]
 pub struct Changed {
     /// They are at rest, and would move.
     pub at_rest: u64,
@@ -23,9 +26,10 @@ pub struct Changed {
 }
 
 impl Floors {
-    /// Counts a call that is not refused, by the populations that it is lent.
+    /// Counts a call by the populations that it is lent.
     pub fn count(&mut self, case: &Case, f: &[f64]) {
-        let (reads, collides) = (case.operation.reads_velocities(), case.operation.collides());
+        let reads = case.operation.reads_velocities();
+        let collides = case.operation.collides() && (case.operation == Operation::Step || case.steps > 0);
         let floor = case.settings.floor;
         if floor == FLOOR || !reads && !collides {
             return;
@@ -39,18 +43,20 @@ impl Floors {
             if collides {
                 self.collided.count(density.abs(), floor);
             }
+            self.exact += u64::from(density.abs() == floor);
         }
     }
 
     /// What a long comparison should have met and has not, in words.
     pub fn missed(&self) -> impl Iterator<Item = &'static str> {
-        let Floors { calls, read, collided } = self;
+        let Floors { calls, read, collided, exact } = self;
         let met = [
             (*calls, "a floor other than 1e-12"),
-            (read.at_rest, "a cell that is read at rest for its floor alone"),
-            (read.moving, "a cell that is read moving for its floor alone"),
-            (collided.at_rest, "a cell that collides at rest for its floor alone"),
-            (collided.moving, "a cell that collides moving for its floor alone"),
+            (read.at_rest, "a cell read at rest, which by 1e-12 would move"),
+            (read.moving, "a cell read moving, which by 1e-12 would rest"),
+            (collided.at_rest, "a cell collided at rest, which by 1e-12 would move"),
+            (collided.moving, "a cell collided moving, which by 1e-12 would rest"),
+            (*exact, "a density of its floor to the last bit"),
         ];
         met.into_iter().filter(|&(times, _)| times == 0).map(|(_, what)| what)
     }
@@ -64,7 +70,7 @@ impl Changed {
 }
 
 /// The cells that a call takes: of the velocity one, else all.
-fn cells(case: &Case) -> std::ops::Range<usize> {
+fn cells(case: &Case) -> Range<usize> {
     match case.operation {
         Operation::Velocity => {
             let cell = case.x + case.y * case.settings.nx as usize;

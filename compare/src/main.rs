@@ -188,10 +188,11 @@ fn report(plan: &Plan, counts: &Counts, comparison: &Comparison) {
     println!("listed differences: {} sums of -0.0 only", comparison.listed.sums);
     println!("                    {} steady runs over a bad snapshot", comparison.listed.snapshots);
     println!("                    {} of them over finite velocities, where a density is not", comparison.listed.densities);
-    let Floors { calls, read, collided } = &comparison.floors;
-    println!("floors: {calls} calls on one other than 1e-12; for it alone");
-    println!("        {} cells are read at rest, and {} collide so", read.at_rest, collided.at_rest);
-    println!("        {} cells are read moving, and {} collide so", read.moving, collided.moving);
+    let Floors { calls, read, collided, exact } = &comparison.floors;
+    println!("floors: {calls} calls with a density test had another than 1e-12");
+    println!("        {} cells were read and {} collided at rest, which by 1e-12 would move", read.at_rest, collided.at_rest);
+    println!("        {} cells were read and {} collided moving, which by 1e-12 would rest", read.moving, collided.moving);
+    println!("        {exact} cells had that density, or its negative, to the last bit");
     let (cases, entries) = (counts.cases, counts.entries);
     println!("compare: {cases} cases on {}, {entries} entries compared, 0 differences that are not listed", level());
 }
