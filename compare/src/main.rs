@@ -37,9 +37,10 @@ compare/run [SOURCE] .. --levels
 
 Compares the proved library with the Rust of SOURCE (../shared/docs/src by default), through the C interface, on N made-up
 cases (1,000,000; --quick: 100,000). Each case is one call: its number, its answers and every entry of every lent buffer are
-compared, and so are refused calls, by the table of the rules. One half has the Rust's floor of 1e-12; to the others the Rust
-is set with its 1e-12 as a variable. Before a call with obstacles come some steps, or none, which are compared as well. --only compares one case of the list that the seed starts, and shows it. The first difference that is
-not listed ends it, with the smallest case found that still differs, and exit status 1.
+compared, and so are refused calls, by the table of the rules. In one half the floor is the Rust's 1e-12; in the other it is
+another, which the Rust is given in both its density tests. Before a call with obstacles come some steps, or none, which are
+compared as well. --only compares one case of the list that the seed starts, and shows it. The first difference that is not
+listed ends it, with the smallest case found that still differs, and exit status 1.
 
 Before the cases, or alone (--checkpoints), come checkpoint files, which the Rust does not know: the library is compared
 with a reading of the format's own words. It is given every prefix of two small files, every value of each byte before the
