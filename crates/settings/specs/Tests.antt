@@ -43,8 +43,7 @@ bytesBad nx ny head len = not (eqb len (head + 72 * (nx * ny)))
 unfoldable pub sizeBad : ℕ → ℕ → Bool
 sizeBad size len = not (eqb len size)
 
--- ---- 3: τ = 3.0·ν + 0.5 is not finite or below 0.5; a Trt minus rate is not finite, below 0 or above 2; or the floor is not
--- positive
+-- ---- 3: τ = 3.0·ν + 0.5 is not finite or below 0.5; or a Trt minus rate is not finite, below 0 or above 2
 
 abbrev pub tauOf : Float → Float
 tauOf nu = c3 ⊗ nu ⊕ c½
@@ -64,6 +63,7 @@ ratesBad s = tauBad (tauOf (s .nu)) || rateBad (s .collision)
 unfoldable pub notPositive : Float → Bool
 notPositive x = notFinite x || not (lt c0 x)
 
+-- or the floor is not positive: a test of its own, since readings make it and test no rate
 abbrev pub floorBad : Settings → Bool
 floorBad s = notPositive (s .floor)
 

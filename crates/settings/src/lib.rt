@@ -359,7 +359,7 @@ fn populations(s: Settings, f: usize, later: u32) -> u32
     sides(s, lengths(s, 9, f, later))
 }
 
-// What every operation that reads a velocity tests of the settings.
+// What every operation that works out a velocity tests of the settings.
 fn moments(s: Settings, later: u32) -> u32
     ensures { λ r. ⌜ r ≡ first (Refusals.floor s ∷ Refusals.force s ∷ []) later ⌝ }
 {
