@@ -83,6 +83,8 @@ enum {
     BROTHWAGON_TRT = 2 /* rate: the minus rate */
 };
 
+/* All 20 words are read, so a host that was compiled with 19, before there was a floor, must be compiled anew. A floor that is
+ * left out is 0, which gives 3 where a density is tested: by velocity, velocity_field, kinetic_energy, step and the two runs. */
 typedef struct {
     uint64_t nx, ny;
     double nu;     /* kinematic viscosity */
@@ -90,7 +92,7 @@ typedef struct {
     uint64_t collision;
     double rate; /* of Trt alone */
     brothwagon_face x_min, x_max, y_min, y_max;
-    double floor; /* a smaller density is not divided by: see velocity and step; 1e-12 unless the study has thin regions */
+    double floor; /* finite and above 0: 1e-12 unless the study has thin regions; velocity and step say what it does */
 } brothwagon_settings; /* 20 words of 8 bytes */
 
 /* A cell of the grid that an obstacle fills. */

@@ -345,7 +345,7 @@ fn all_ruined() {
 }
 
 /// One cell about its floor, each kind of collision at each floor: the velocity, then the nine post-collision entries. All of the
-/// density is in one direction: it is the number before the floor, the floor, or the number after it, of either sign.
+/// density moves in one direction: it is the number before the floor, the floor, or the number after it, of either sign.
 fn floors() {
     for k in 0..108 {
         let floor: f64 = [5e-324, 1e-300, 1e-20, 0.5, 1.0, 1e300][k as usize / 6 % 6];
@@ -354,7 +354,7 @@ fn floors() {
             .with_collision(collision(k / 36, 1.25))
             .with_force(wanted(u64::from(k % 5 < 2), 0.01, 0.0));
         lbm.floor = floor;
-        lbm.f[k as usize % 9] = if k / 3 % 2 == 1 { -beside } else { beside };
+        lbm.f[1 + k as usize % 8] = if k / 3 % 2 == 1 { -beside } else { beside };
         line(&patterns(&lbm.velocity(0, 0)));
         lbm.collide_only();
         line(&patterns(lbm.post()));

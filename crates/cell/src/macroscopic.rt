@@ -64,9 +64,7 @@ fn momentum_y(f: [f64; 9]) -> f64
     )
 }
 
-// Below the floor a density is too small to divide by. Each reading has its own test.
-//
-// What is read of a cell: at rest where the density is below the floor, negative densities included.
+// What is read of a cell: at rest where the density is below the floor, negative densities included. Collision has a test of its own.
 pub fn read_moments(f: [f64; 9], fx: f64, fy: f64, floor: f64) -> Moments
     ensures { λ r. ⌜ r ≡ readMoments f fx fy floor ⌝ }
 {

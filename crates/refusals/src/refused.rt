@@ -92,7 +92,7 @@ fn rates() {
     steady(b"minus rate 3", colliding(Collision::Trt(3.0)), 0.0, 1);
 }
 
-// The same of the floor, where no rate is tested too.
+// Number 3 of the floor, which readings test too.
 fn floors() {
     calls::velocity(b"floor NaN", floored(nan()), &F, 0, 0);
     velocity_field(b"floor 0", floored(0.0));

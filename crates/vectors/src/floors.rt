@@ -21,7 +21,7 @@ fn show_cell(s: Settings, f: &mut [u64], post: &mut [u64]) {
     show::words(post);
 }
 
-// Case k of 108. All of the density is in one direction: it is the number before the floor, the floor, or the number after it, of
+// Case k of 108. All of the density moves in one direction: it is the number before the floor, the floor, or the number after it, of
 // either sign.
 fn one(k: u64) {
     let before = BEFORE[(k / 6 % 6) as usize];
@@ -32,7 +32,7 @@ fn one(k: u64) {
     let mut s = studies::periodic(1, 1, 0.1, fx, 0.0, collision);
     s.floor = number::value(std::num::wrapping_add_u64(before, 1));
     let mut f = [0; 9];
-    f[(k % 9) as usize] = sign | beside;
+    f[(1 + k % 8) as usize] = sign | beside;
     show_cell(s, &mut f, &mut [0; 9]);
 }
 

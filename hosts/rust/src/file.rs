@@ -94,6 +94,14 @@ impl StudyFile {
         })
     }
 
+    /// A number as study files have it: `0.1875`, or a division that is rounded once, `3/16`.
+    pub fn number(word: &str) -> Option<f64> {
+        match word.split_once('/') {
+            Some((above, below)) => Some(above.parse::<f64>().ok()? / below.parse::<f64>().ok()?),
+            None => word.parse().ok(),
+        }
+    }
+
     /// The study at its start.
     pub fn started(&self) -> Result<Study, Refusal> {
         let mut study = Study::new(self.settings)?;
@@ -216,12 +224,8 @@ fn whole<T: std::str::FromStr>(word: &str) -> Option<T> {
     word.parse().ok()
 }
 
-/// A number as study files have it: `0.1875`, or a division that is rounded once, `3/16`.
-pub fn number(word: &str) -> Option<f64> {
-    match word.split_once('/') {
-        Some((above, below)) => Some(above.parse::<f64>().ok()? / below.parse::<f64>().ok()?),
-        None => word.parse().ok(),
-    }
+fn number(word: &str) -> Option<f64> {
+    StudyFile::number(word)
 }
 
 fn collision(words: &[&str]) -> Option<Rates> {

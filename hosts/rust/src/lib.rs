@@ -53,7 +53,7 @@ mod tally;
 
 pub use checkpoint::Checkpoint;
 pub use ffi::Obstacle;
-pub use file::{Start, StudyFile, Wrong, number};
+pub use file::{Start, StudyFile, Wrong};
 pub use fingerprint::fingerprint;
 pub use level::level;
 pub use refusal::Refusal;

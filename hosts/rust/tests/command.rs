@@ -107,6 +107,8 @@ fn help_has_every_line_of_a_study_file_and_every_option() {
     for name in names.replace(" or ", ", ").split(", ").filter(|name| !["x-max", "y-min", "y-max"].contains(name)) {
         assert!(help.lines().any(|line| line.starts_with(&format!("  {name} "))), "{name}");
     }
+    // What is left out, as docs and settings have it.
+    assert_eq!(help.matches("1e-12 if left out").count(), 1);
     for option in ["--steps N", "--from FILE", "--save FILE", "--every N --into FOLDER", "--floor NUMBER"] {
         assert!(help.lines().any(|line| line.starts_with(&format!("    {option} "))), "{option}");
     }

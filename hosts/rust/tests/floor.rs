@@ -274,6 +274,30 @@ fn a_run_goes_by_the_floor_of_its_study() {
 }
 
 #[test]
+fn a_run_goes_by_a_floor_above_its_densities_too() {
+    let thick = |floor: &str| format!("sides 3 2\nviscosity 0.1\nsteps 3\nstart uniform 1 0.1 0\nfloor {floor}\n");
+    for command in ["run", "steady"] {
+        for (floor, moves) in [("0.5", true), ("1.5", false), ("1e300", false)] {
+            let said = out(&format!("{command} {}", study(&format!("{command}-above-{floor}"), &thick(floor))));
+            assert_eq!(value(&said, "kinetic energy") != "0.0", moves, "{command}, {floor}: {said}");
+        }
+    }
+}
+
+#[test]
+fn a_run_from_a_checkpoint_and_a_steady_one_go_by_the_floor_of_their_study() {
+    let whole = out("run STUDIES/thin.study --steps 20");
+    out("run STUDIES/thin.study --steps 10 --save MADE/thin-half");
+    let on = out("run STUDIES/thin.study --steps 10 --from MADE/thin-half");
+    assert_eq!(value(&on, "fingerprint"), value(&whole, "fingerprint"));
+    assert_eq!(value(&on, "kinetic energy"), value(&whole, "kinetic energy"));
+    for from in ["", " --from MADE/thin-half"] {
+        let settled = out(&format!("steady STUDIES/thin.study{from}"));
+        assert!(value(&settled, "kinetic energy").parse::<f64>().unwrap() > 0.0, "{settled}");
+    }
+}
+
+#[test]
 fn a_bad_floor_is_refused_before_the_first_step() {
     for floor in ["nan", "inf", "-inf", "0", "-0", "-1e-12", "-5e-324"] {
         let bad = study("bad-floor", &format!("sides 2 2\nviscosity 1\nsteps 5\nforce inf 0\nfloor {floor}\n"));
@@ -307,10 +331,17 @@ fn show_reads_velocities_with_the_floor_that_it_is_given() {
     let thin = checkpoint("thin", [0.0, rho, 0.0, 0.0, 0.0, 0.0, 0.0, 0.0, 0.0]);
     let usual = out(&format!("show {thin}"));
     assert_eq!(value(&usual, "kinetic energy"), "0.0");
-    assert_eq!(out(&format!("show --floor 1e-12 {thin}")), usual);
+    assert!(!usual.contains("floor"));
+    let same = out(&format!("show --floor 1/1000000000000 {thin}"));
+    assert_eq!(same.replace("  floor             1e-12\n", ""), usual);
     let shown = out(&format!("show {thin} --floor 1e-20"));
-    assert_eq!(value(&shown, "kinetic energy"), format!("{:?}", 0.5 * rho));
-    assert_eq!(shown.replace(value(&shown, "kinetic energy"), "0.0"), usual);
+    assert_eq!((value(&shown, "floor"), value(&shown, "kinetic energy")), ("1e-20", &*format!("{:?}", 0.5 * rho)));
+    assert_eq!(value(&shown, "fingerprint"), value(&usual, "fingerprint"));
+
+    let thick = checkpoint("thick", [0.0, 3.0, 0.0, 0.0, 0.0, 0.0, 0.0, 0.0, 0.0]);
+    for (floor, energy) in [("0.5", "1.5"), ("3", "1.5"), ("3.5", "0.0"), ("1e300", "0.0")] {
+        assert_eq!(value(&out(&format!("show {thick} --floor {floor}")), "kinetic energy"), energy, "{floor}");
+    }
 
     // A density of 1e-13, and a momentum that has no finite velocity with it.
     let fast = checkpoint("fast", [0.0, 1e300, 0.0, -1e300, 0.0, 0.0, 0.0, 0.0, 1e-13]);
@@ -326,7 +357,7 @@ fn show_refuses_a_bad_floor_and_takes_no_word_for_one() {
     for floor in ["nan", "inf", "0", "-0", "-1", "1/0"] {
         let (status, said) = failed(&format!("show {any} --floor {floor}"));
         assert_eq!(status, Some(1), "{floor}");
-        assert!(said.contains("any.checkpoint: refused with number 3: "), "{floor}: {said}");
+        assert!(said.contains(&format!("--floor {floor}: refused with number 3: ")), "{floor}: {said}");
     }
     for words in ["--floor low", "--floor", "--floor 1 --floor 1", "--from 1", "MADE/other"] {
         assert_eq!(failed(&format!("show {any} {words}")).0, Some(2), "{words}");

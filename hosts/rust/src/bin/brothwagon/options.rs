@@ -2,7 +2,7 @@
 
 use crate::failure::Failure;
 use crate::names;
-use brothwagon::{FLOOR, number};
+use brothwagon::{FLOOR, StudyFile};
 use std::fmt;
 use std::path::Path;
 
@@ -118,7 +118,8 @@ impl<'a> Draft<'a> {
 /// What `show` is asked for.
 pub struct Shown<'a> {
     pub file: &'a str,
-    /// That of the checkpoint's study, which the file does not hold.
+    /// The floor of the checkpoint's study, which the file does not hold: as the word that was given, and as a number.
+    pub given: Option<&'a str>,
     pub floor: f64,
 }
 
@@ -138,8 +139,8 @@ impl<'a> Shown<'a> {
             }
         }
         let file = file.ok_or("show takes a checkpoint file; brothwagon --help says more")?;
-        let read = |word: &str| number(word).ok_or_else(|| format!("--floor takes a number, not `{word}`"));
-        Ok(Shown { file, floor: floor.map_or(Ok(FLOOR), read)? })
+        let read = |word: &str| StudyFile::number(word).ok_or_else(|| format!("--floor takes a number, not `{word}`"));
+        Ok(Shown { file, given: floor, floor: floor.map_or(Ok(FLOOR), read)? })
     }
 }
 

@@ -1,6 +1,6 @@
 //! `brothwagon show`: what a checkpoint holds.
 
-use crate::answer::{line, state, title};
+use crate::answer::{exact, line, state, title};
 use crate::failure::Failure;
 use crate::judged::judged;
 use crate::options::Shown;
@@ -9,7 +9,7 @@ use brothwagon::{Settings, Study};
 use std::io::Write;
 
 pub fn show(words: &[&str], out: &mut impl Write) -> Result<(), Failure> {
-    let Shown { file: path, floor } = Shown::read(words)?;
+    let Shown { file: path, given, floor } = Shown::read(words)?;
     let pair = Pair::read(path.as_ref())?;
     let (tally, checkpoint) = (pair.said(), pair.checkpoint);
     let (nx, ny) = checkpoint.sides();
@@ -18,10 +18,17 @@ pub fn show(words: &[&str], out: &mut impl Write) -> Result<(), Failure> {
     // the floor.
     let mut study = Study::new(Settings { floor, ..Settings::new(nx, ny, 1.0) })?;
     study.load(checkpoint).expect("the study has the checkpoint's sides");
+    // A floor that no reading takes is the option's fault, not the file's.
+    if let Some(word) = given {
+        study.velocity(0, 0).map_err(|refusal| Failure::from(refusal).about(format_args!("--floor {word}")))?;
+    }
     let said = judged(&study, step.into(), || {
         title(out, path, &study)?;
         line(out, "step", step)?;
         line(out, "tally", tally)?;
+        if given.is_some() {
+            line(out, "floor", exact(floor))?;
+        }
         state(out, &study)
     });
     said.map_err(|failure| failure.about(path))
