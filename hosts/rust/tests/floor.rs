@@ -69,6 +69,14 @@ fn the_floor_of_the_source_is_the_default() {
 }
 
 #[test]
+fn the_header_counts_the_words_that_are_read() {
+    let header = include_str!("../../../include/brothwagon.h");
+    let words = size_of::<ffi::Settings>() / 8;
+    assert!(header.contains(&format!("}} brothwagon_settings; /* {words} words of 8 bytes */")));
+    assert!(header.contains(&format!("/* All {words} words are read, so a host that was compiled with {}, before", words - 1)));
+}
+
+#[test]
 fn a_bad_floor_is_refused_by_those_that_use_it_and_nothing_is_written() {
     for floor in BAD {
         for (name, operation) in TESTING {
