@@ -5,7 +5,8 @@
  *    0  done
  *    1  a side or the cell count is outside its range: sides 1 to 4,096, at most 1,048,576 cells
  *    2  a lent buffer has the wrong length
- *    3  3 nu + 0.5 is not finite or below 0.5; or a Trt rate is not finite, below 0 or above 2
+ *    3  3 nu + 0.5 is not finite or below 0.5; a Trt rate is not finite, below 0 or above 2;
+ *       or the floor is not finite or not above 0
  *    4  a force component is not finite
  *    5  a face number is not finite; a Pressure density is not above 0; or a Velocity face has 1 - un equal to 0
  *    6  x, y or direction outside, or the place of any obstacle of a list
@@ -82,6 +83,8 @@ enum {
     BROTHWAGON_TRT = 2 /* rate: the minus rate */
 };
 
+/* All 20 words are read, so a host that was compiled with 19, before there was a floor, must be compiled anew. A floor that is
+ * left out is 0, which gives 3 where a density is tested: by velocity, velocity_field, kinetic_energy, step and the two runs. */
 typedef struct {
     uint64_t nx, ny;
     double nu;     /* kinematic viscosity */
@@ -89,7 +92,8 @@ typedef struct {
     uint64_t collision;
     double rate; /* of Trt alone */
     brothwagon_face x_min, x_max, y_min, y_max;
-} brothwagon_settings; /* 19 words of 8 bytes */
+    double floor; /* finite and above 0: 1e-12 unless the study has thin regions; velocity and step say what it does */
+} brothwagon_settings; /* 20 words of 8 bytes */
 
 /* A cell of the grid that an obstacle fills. */
 typedef struct {
@@ -106,13 +110,13 @@ uint32_t brothwagon_initialize(const brothwagon_settings *settings, const double
 uint32_t brothwagon_density(const brothwagon_settings *settings, const double *f, size_t f_length, size_t x, size_t y,
                             double rho[1]);
 
-/* The velocity of one cell, half the force included; (0, 0) where the density is below 1e-12.
- * Numbers 1, 2, 4, 6; then u is (0, 0). */
+/* The velocity of one cell, half the force included; (0, 0) where the density is below the floor, negative ones included.
+ * Numbers 1, 2, 3 (the floor alone), 4, 6; then u is (0, 0). */
 uint32_t brothwagon_velocity(const brothwagon_settings *settings, const double *f, size_t f_length, size_t x, size_t y,
                              double u[2]);
 
 /* The velocity of every cell, into u.
- * Numbers 1, 2, 4; then u is as it was. */
+ * Numbers 1, 2, 3 (the floor alone), 4; then u is as it was. */
 uint32_t brothwagon_velocity_field(const brothwagon_settings *settings, const double *f, size_t f_length, double *u,
                                    size_t u_length);
 
@@ -121,7 +125,7 @@ uint32_t brothwagon_velocity_field(const brothwagon_settings *settings, const do
 uint32_t brothwagon_total_mass(const brothwagon_settings *settings, const double *f, size_t f_length, double mass[1]);
 
 /* The sum of 0.5 rho |u|^2 over all cells.
- * Numbers 1, 2, 4; then energy is 0. */
+ * Numbers 1, 2, 3 (the floor alone), 4; then energy is 0. */
 uint32_t brothwagon_kinetic_energy(const brothwagon_settings *settings, const double *f, size_t f_length, double energy[1]);
 
 /* Where all entries of one direction stand in f: part is {start, count}.
@@ -144,7 +148,8 @@ uint32_t brothwagon_lossless(const brothwagon_settings *settings, uint64_t answe
 uint32_t brothwagon_reverse(const brothwagon_settings *settings, const double *f, size_t f_length, double *post,
                             size_t post_length);
 
-/* One step: collides f into post, then streams post into f with faces. post keeps the post-collision state.
+/* One step: collides f into post, then streams post into f with faces. post keeps the post-collision state. A cell collides as
+ * at rest where the magnitude of its density is below the floor.
  * Numbers 1, 2, 3, 4, 5; then f and post are as they were. */
 uint32_t brothwagon_step(const brothwagon_settings *settings, double *f, size_t f_length, double *post, size_t post_length);
 

@@ -344,6 +344,23 @@ fn all_ruined() {
     }
 }
 
+/// One cell about its floor, each kind of collision at each floor: the velocity, then the nine post-collision entries. All of the
+/// density moves in one direction: it is the number before the floor, the floor, or the number after it, of either sign.
+fn floors() {
+    for k in 0..108 {
+        let floor: f64 = [5e-324, 1e-300, 1e-20, 0.5, 1.0, 1e300][k as usize / 6 % 6];
+        let beside = [floor.next_down(), floor, floor.next_up()][k as usize % 3];
+        let mut lbm = LatticeBoltzmann2D::new(1, 1, 0.1)
+            .with_collision(collision(k / 36, 1.25))
+            .with_force(wanted(u64::from(k % 5 < 2), 0.01, 0.0));
+        lbm.floor = floor;
+        lbm.f[1 + k as usize % 8] = if k / 3 % 2 == 1 { -beside } else { beside };
+        line(&patterns(&lbm.velocity(0, 0)));
+        lbm.collide_only();
+        line(&patterns(lbm.post()));
+    }
+}
+
 fn main() {
     let mut made = Made(88172645463325252);
     cells(&mut made);
@@ -352,4 +369,5 @@ fn main() {
     runs(&mut made);
     steadies(&mut made);
     all_ruined();
+    floors();
 }

@@ -1,14 +1,21 @@
 //! Copies the Rust's files to the build folder, as modules of this crate. BROTHWAGON_SOURCE is the folder with its
 //! crates/phyz-lbm/src; shared/docs/src beside the repository by default.
 //!
-//! `d2q9` is the file unchanged, with the access block of vectors/ appended; `rated` is the same with the minus rate put in
-//! where `collide_trt` works it out, for a rate that no magic number gives.
+//! `d2q9` is the file unchanged, with the access block of vectors/ appended. `varied` is the same with two numbers that can be
+//! given: the minus rate, put in where `collide_trt` works it out, and the floor, a field of the solver that both density tests
+//! read where the file has 1e-12.
 
 use std::env;
 use std::fs;
 use std::path::{Path, PathBuf};
 
-const WORKED_OUT: &str = "trt_omega_minus(omega_p, magic)";
+/// What is another in `varied`, and in how many places of the file: the rate, both density tests, and the solver's fields.
+const CHANGES: [(&str, usize, &str); 4] = [
+    ("trt_omega_minus(omega_p, magic)", 1, "magic"),
+    ("1e-12", 2, "self.floor"),
+    ("pub boundaries: Boundaries<2>,", 1, "pub boundaries: Boundaries<2>, pub floor: f64,"),
+    ("boundaries: Boundaries::periodic(),", 1, "boundaries: Boundaries::periodic(), floor: 1e-12,"),
+];
 
 fn main() {
     let root = Path::new(env!("CARGO_MANIFEST_DIR")).join("../..");
@@ -21,13 +28,12 @@ fn main() {
     }
 
     let d2q9 = read(&source.join("d2q9.rs")) + &read(&root.join("vectors/access.rs"));
-    assert_eq!(d2q9.matches(WORKED_OUT).count(), 1, "the minus rate is worked out in one place");
-    let rated = d2q9.replace(WORKED_OUT, "magic");
+    let varied = CHANGES.into_iter().fold(d2q9.clone(), changed);
     let modules = [
         module("boundary", &read(&source.join("boundary.rs"))),
         module("collision", &read(&source.join("collision.rs"))),
         module("d2q9", &d2q9),
-        module("rated", &rated),
+        module("varied", &varied),
     ];
     fs::write(built("modules"), modules.concat()).expect("the build folder can be written");
 }
@@ -35,6 +41,12 @@ fn main() {
 fn read(path: &Path) -> String {
     println!("cargo::rerun-if-changed={}", path.display());
     fs::read_to_string(path).unwrap_or_else(|why| panic!("{}: {why}", path.display()))
+}
+
+/// The text with one change made in all its places.
+fn changed(text: String, (from, places, to): (&str, usize, &str)) -> String {
+    assert_eq!(text.matches(from).count(), places, "places of {from:?} in d2q9.rs");
+    text.replace(from, to)
 }
 
 fn built(name: &str) -> PathBuf {

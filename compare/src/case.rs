@@ -66,6 +66,14 @@ impl Operation {
             _ => &[F],
         }
     }
+
+    pub fn reads_velocities(self) -> bool {
+        matches!(self, Operation::Velocity | Operation::VelocityField | Operation::KineticEnergy | Operation::RunToSteadyState)
+    }
+
+    pub fn collides(self) -> bool {
+        matches!(self, Operation::Step | Operation::Run | Operation::RunToSteadyState)
+    }
 }
 
 /// What the lent buffers hold before the call.
@@ -73,8 +81,10 @@ impl Operation {
 pub enum Start {
     /// An ordinary flow, off its equilibrium.
     Flow,
-    /// Densities of both signs about the floor of 1e-12.
+    /// Densities of both signs about the floor.
     Thin,
+    /// Densities that are the floor, a number next to it, or the negative of one, to the last bit.
+    AtFloor,
     /// Numbers whose squares overflow.
     Huge,
     /// An ordinary flow at a density so large that some cells' densities overflow, and their velocities do not.
@@ -94,11 +104,12 @@ pub enum Start {
 }
 
 impl Start {
-    /// An entry of a direction with this weight.
-    fn entry(self, made: &mut Made, weight: f64) -> f64 {
+    /// An entry of a direction with this weight, where the floor is this one.
+    fn entry(self, made: &mut Made, weight: f64, floor: f64) -> f64 {
         match self {
             Start::Flow => weight * made.between(0.8, 1.2),
-            Start::Thin => weight * made.between(-6e-12, 6e-12),
+            Start::Thin => weight * made.between(-6.0, 6.0) * floor,
+            Start::AtFloor => made.next_to(floor),
             Start::Huge => made.huge(),
             Start::Dense => 1.6e308 * weight * made.between(0.8, 1.2),
             Start::DenseBelow => -1.6e308 * weight * made.between(0.8, 1.2),
@@ -160,23 +171,41 @@ impl Case {
     pub fn fill(&self, buffer: usize, into: &mut Vec<f64>) {
         let mut made = Made::of(self.seed, buffer as u64);
         let (length, cells) = (self.length(buffer), self.cells());
+        let entry = |made: &mut Made, weight| self.start.entry(made, weight, self.settings.floor);
         into.resize(length + GUARD, 0.0);
         match buffer {
+            F | POST if self.start == Start::AtFloor => self.fill_at_floor(&mut made, &mut into[..length]),
             F | POST => {
                 for (direction, plane) in into[..length].chunks_mut(cells).enumerate() {
                     let weight = W[direction % 9];
-                    plane.fill_with(|| self.start.entry(&mut made, weight));
+                    plane.fill_with(|| entry(&mut made, weight));
                 }
             }
             TABLE if matches!(self.start, Start::Flow | Start::Sprinkled) => {
                 for cell in into[..length].chunks_mut(3) {
-                    cell.fill_with(|| self.start.entry(&mut made, 0.1));
-                    cell[0] = self.start.entry(&mut made, 1.0);
+                    cell.fill_with(|| entry(&mut made, 0.1));
+                    cell[0] = entry(&mut made, 1.0);
                 }
             }
-            _ => into[..length].fill_with(|| self.start.entry(&mut made, 1.0)),
+            _ => into[..length].fill_with(|| entry(&mut made, 1.0)),
         }
         into[length..].fill_with(|| made.bits());
+    }
+
+    /// Fills populations, as far as they go, so that the sum of each cell's is exact.
+    fn fill_at_floor(&self, made: &mut Made, populations: &mut [f64]) {
+        populations.fill(0.0);
+        for cell in 0..self.cells() {
+            let density = self.start.entry(made, 1.0, self.settings.floor);
+            // All in one direction, or three quarters in one and the rest, which is exact, in another.
+            let part = made.pick(&[1.0, 0.75]) * density;
+            for part in [part, density - part] {
+                let direction = made.below(9) as usize;
+                if let Some(entry) = populations.get_mut(cell + direction * self.cells()) {
+                    *entry += part;
+                }
+            }
+        }
     }
 
     /// The run that comes before the call, so that obstacles also throw back what steps have made.
@@ -203,7 +232,7 @@ impl fmt::Display for Case {
     fn fmt(&self, out: &mut fmt::Formatter) -> fmt::Result {
         let s = &self.settings;
         writeln!(out, "{:?} on {} by {}", self.operation, s.nx, s.ny)?;
-        writeln!(out, "  nu {:?}, force ({:?}, {:?})", s.nu, s.fx, s.fy)?;
+        writeln!(out, "  nu {:?}, force ({:?}, {:?}), floor {:?}", s.nu, s.fx, s.fy, s.floor)?;
         let magic = self.magic.map(|magic| format!(", of magic number {magic:?}")).unwrap_or_default();
         match s.collision {
             0 => writeln!(out, "  Bgk")?,

@@ -3,6 +3,8 @@
 use crate::call::call;
 use crate::case::{BUFFERS, Case, F, GUARD, Operation, POST};
 use crate::expected::{Answer, Lent, Listed, all_made, ask, expected, pattern};
+use crate::floors::Floors;
+use crate::rules;
 
 /// Both sides' buffers, kept from case to case.
 #[derive(Default)]
@@ -12,6 +14,7 @@ pub struct Comparison {
     /// For what the Rust is asked about the port's answer.
     again: Lent,
     pub listed: Listed,
+    pub floors: Floors,
 }
 
 /// What was compared in a case without a difference.
@@ -40,7 +43,10 @@ impl Comparison {
 
     /// One call on both sides' buffers as they are.
     fn compare_call(&mut self, case: &Case) -> Result<Seen, Difference> {
-        let before = self.listed;
+        let (before, mut floors) = (self.listed, self.floors);
+        if rules::number(case) == 0 {
+            floors.count(case, &self.rust.0[F]);
+        }
         let wanted = expected(case, &mut self.rust, &mut self.listed);
         let got = call(case, &mut self.port);
         same_answer(&wanted, &got)?;
@@ -49,6 +55,7 @@ impl Comparison {
             entries += self.same_buffer(case, &wanted, buffer)?;
         }
         if wanted.number == 0 {
+            self.floors = floors;
             match case.operation {
                 Operation::Reverse => entries += self.streams_back(case)?,
                 // The Rust's own run knows nothing of a sum that was put right on the way.

@@ -1,7 +1,7 @@
 //! The recorded differences: each row of docs/DIFFERENCES.md that has an input, asked of the Rust and of the library.
 
 use brothwagon::ffi::{self, Face, Obstacle, Settings};
-use source::{Solver, solver};
+use source::{FLOOR, Solver, solver};
 use std::fmt::Debug;
 use std::panic::{self, AssertUnwindSafe, catch_unwind};
 use std::process::ExitCode;
@@ -20,7 +20,7 @@ const MINUS_INFINITY: f64 = f64::NEG_INFINITY;
 pub fn show() -> ExitCode {
     // A panic of the Rust is an answer here.
     panic::set_hook(Box::new(|_| ()));
-    let rows: Vec<Row> = [sums(), steady_runs(), places(), obstacles(), refusals()].into_iter().flatten().collect();
+    let rows: Vec<Row> = [sums(), steady_runs(), places(), obstacles(), floors(), refusals()].into_iter().flatten().collect();
     let mut wrong = 0;
     for row in &rows {
         println!("{}\n  the Rust: {}\n  the port: {}", row.asked, row.rust.1, row.port.1);
@@ -52,8 +52,9 @@ fn settings(nx: u64, ny: u64) -> Settings {
     Settings { nx, ny, nu: 0.1, ..Settings::default() }
 }
 
+/// The Rust, which has no floor but its own.
 fn on(settings: &Settings, f: &[f64]) -> Box<dyn Solver> {
-    solver(settings, None, f.to_vec(), vec![0.0; f.len()])
+    solver(&Settings { floor: FLOOR, ..*settings }, None, f.to_vec(), vec![0.0; f.len()])
 }
 
 fn only(population: f64) -> [f64; 9] {
@@ -172,6 +173,16 @@ fn obstacles() -> Vec<Row> {
     ]
 }
 
+fn floors() -> Vec<Row> {
+    let thin = Settings { floor: 0.5, ..settings(1, 1) };
+    let f = [0.0, 0.25, 0.0, 0.0, 0.0, 0.0, 0.0, 0.0, 0.0];
+    vec![row(
+        "velocity, 1 by 1, population 1 alone is 0.25, floor 0.5",
+        ("[1.0, 0.0]", answers(|| on(&thin, &f).velocity(0, 0))),
+        ("[0.0, 0.0]", format!("{:?}", ffi::velocity(&thin, &f, 0, 0).1)),
+    )]
+}
+
 /// A call of the Rust that goes on or panics, and the port's number.
 fn refused(asked: &'static str, s: Settings, rust: &'static str, steps: u64, port: &'static str) -> Row {
     let entries = 9 * (s.nx * s.ny) as usize;
@@ -190,6 +201,7 @@ fn refusals() -> Vec<Row> {
         refused("a step, 0 by 1, closed box", closed, "panics", 1, "number 1"),
         refused("a step, 4097 by 1", settings(4097, 1), "goes on", 1, "number 1"),
         refused("a step, viscosity -1", Settings { nu: -1.0, ..one }, "goes on", 1, "number 3"),
+        refused("a step, floor 0", Settings { floor: 0.0, ..one }, "goes on", 1, "number 3"),
         refused("a step, force NaN", Settings { fx: NAN, ..one }, "goes on", 1, "number 4"),
         refused("a step, x min Pressure(0)", Settings { x_min: empty, ..one }, "goes on", 1, "number 5"),
         refused("1,000,001 steps, 1 by 1", one, "goes on", 1_000_001, "number 10"),

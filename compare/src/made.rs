@@ -5,7 +5,7 @@ mod special;
 
 use special::SPECIAL;
 
-/// The density floor below 0, and a large number below 0.
+/// The source's density floor below 0, and a large number below 0.
 const BELOW: [u64; 2] = [0xbd71_9799_812d_ea11, 0xffe0_0000_0000_0000];
 
 /// Steele, Lea and Flood's SplitMix64.
@@ -43,6 +43,12 @@ impl Made {
     /// Any 64 bits.
     pub fn bits(&mut self) -> f64 {
         f64::from_bits(self.next())
+    }
+
+    /// A number, one of the two next to it, or the negative of one of these.
+    pub fn next_to(&mut self, number: f64) -> f64 {
+        let near = self.pick(&[number, number.next_down(), number.next_up()]);
+        self.pick(&[near, -near])
     }
 
     pub fn special(&mut self) -> f64 {

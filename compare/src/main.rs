@@ -6,6 +6,7 @@ mod checkpoints;
 mod comparison;
 mod differences;
 mod expected;
+mod floors;
 mod levels;
 mod made;
 mod progress;
@@ -19,6 +20,7 @@ mod tallies;
 use case::{BUFFERS, Case, OPERATIONS};
 use checkpoints::CHECKPOINTS;
 use comparison::{Comparison, Difference};
+use floors::Floors;
 use progress::Progress;
 use questions::shown;
 use source::levels::{as_asked, level};
@@ -35,9 +37,10 @@ compare/run [SOURCE] .. --levels
 
 Compares the proved library with the Rust of SOURCE (../shared/docs/src by default), through the C interface, on N made-up
 cases (1,000,000; --quick: 100,000). Each case is one call: its number, its answers and every entry of every lent buffer are
-compared, and so are refused calls, by the table of the rules. Before a call with obstacles come some steps, or none, which
-are compared as well. --only compares one case of the list that the seed starts, and shows it. The first difference that is
-not listed ends it, with the smallest case found that still differs, and exit status 1.
+compared, and so are refused calls, by the table of the rules. In one half the floor is the Rust's 1e-12; in the other it is
+another, which the Rust is given in both its density tests. Before a call with obstacles come some steps, or none, which are
+compared as well. --only compares one case of the list that the seed starts, and shows it. The first difference that is not
+listed ends it, with the smallest case found that still differs, and exit status 1.
 
 Before the cases, or alone (--checkpoints), come checkpoint files, which the Rust does not know: the library is compared
 with a reading of the format's own words. It is given every prefix of two small files, every value of each byte before the
@@ -186,20 +189,26 @@ fn report(plan: &Plan, counts: &Counts, comparison: &Comparison) {
     println!("listed differences: {} sums of -0.0 only", comparison.listed.sums);
     println!("                    {} steady runs over a bad snapshot", comparison.listed.snapshots);
     println!("                    {} of them over finite velocities, where a density is not", comparison.listed.densities);
+    let Floors { calls, read, collided, exact } = &comparison.floors;
+    println!("floors: {calls} calls with a density test had another than 1e-12");
+    println!("        {} cells were read and {} collided at rest, which by 1e-12 would move", read.at_rest, collided.at_rest);
+    println!("        {} cells were read and {} collided moving, which by 1e-12 would rest", read.moving, collided.moving);
+    println!("        {exact} cells had that density, or its negative, to the last bit");
     let (cases, entries) = (counts.cases, counts.entries);
     println!("compare: {cases} cases on {}, {entries} entries compared, 0 differences that are not listed", level());
 }
 
-/// A long comparison that never met some number, or number 9 for a density alone, would say little.
+/// A long comparison that never met some number, number 9 for a density alone, or what a floor decides, would say little.
 fn reached_all(counts: &Counts, comparison: &Comparison) -> bool {
     let numbers = NUMBERS.into_iter().filter(|&number| counts.by_number[number] == 0);
-    let mut missed: Vec<String> = numbers.map(|number| number.to_string()).collect();
+    let mut missed: Vec<String> = numbers.map(|number| format!("number {number}")).collect();
     if comparison.listed.densities == 0 {
-        missed.push("9 for a density alone".to_string());
+        missed.push("number 9 for a density alone".to_string());
     }
+    missed.extend(comparison.floors.missed().map(str::to_string));
     let little = counts.cases >= 10_000 && !missed.is_empty();
     if little {
-        println!("compare: no case was answered with {}", missed.join(", "));
+        println!("compare: no case met {}", missed.join(", "));
     }
     !little
 }

@@ -4,6 +4,7 @@ use crate::case::{Case, OPERATIONS, Operation, Start};
 use crate::made::Made;
 use crate::rules::MOST_STEPS;
 use brothwagon::{Collision, ffi};
+use source::FLOOR;
 
 /// Each so many cases, one has a large grid.
 const BETWEEN_LARGE: u64 = 1000;
@@ -26,7 +27,7 @@ const WHOLE: [Operation; 11] = [
     Operation::Lossless,
 ];
 
-const STARTS: [Start; 14] = [
+const STARTS: [Start; 15] = [
     Start::Flow,
     Start::Flow,
     Start::Flow,
@@ -36,6 +37,7 @@ const STARTS: [Start; 14] = [
     Start::Bits,
     Start::Special,
     Start::Thin,
+    Start::AtFloor,
     Start::Huge,
     Start::Dense,
     Start::DenseBelow,
@@ -80,6 +82,8 @@ fn sides(made: &mut Made, operation: Operation) -> (u64, u64) {
 /// A case that none but the numbers 7, 8 and 9 can refuse.
 fn good(made: &mut Made, operation: Operation, (nx, ny): (u64, u64)) -> Case {
     let copying = matches!(operation, Operation::Lossless | Operation::Reverse) && !made.one_in(16);
+    let start = if copying { Start::Bits } else { made.pick(&STARTS) };
+    let floor = floor(made, start);
     let nu = viscosity(made);
     let (collision, rate, magic) = collision(made, nu);
     let (fx, fy) = force(made);
@@ -90,9 +94,9 @@ fn good(made: &mut Made, operation: Operation, (nx, ny): (u64, u64)) -> Case {
     };
     Case {
         operation,
-        settings: ffi::Settings { nx, ny, nu, fx, fy, collision, rate, x_min, x_max, y_min, y_max },
+        settings: ffi::Settings { nx, ny, nu, fx, fy, collision, rate, x_min, x_max, y_min, y_max, floor },
         magic,
-        start: if copying { Start::Bits } else { made.pick(&STARTS) },
+        start,
         seed: made.next(),
         extra: [0; 4],
         x: made.below(nx) as usize,
@@ -117,6 +121,17 @@ fn list(made: &mut Made, nx: u64, ny: u64) -> Vec<ffi::Obstacle> {
             (0..cells).filter(|_| made.one_in(chances)).map(obstacle).collect()
         }
     }
+}
+
+/// One half is the source's, so that its unchanged file is compared with. The rest are any, or one that the start's densities
+/// lie about.
+fn floor(made: &mut Made, start: Start) -> f64 {
+    let any = f64::from_bits(1 + made.below(f64::MAX.to_bits()));
+    let ends = made.pick(&[5e-324, 1e-310, f64::MIN_POSITIVE, 1e-300, 1e300, f64::MAX]);
+    let plain = made.pick(&[1e-20, 1e-13, 1e-11, 1e-6, 0.1, 0.5, 1.0, 1.5, 3.0, 1e6]);
+    let density = if matches!(start, Start::Dense | Start::DenseBelow) { 1.6e308 } else { 1.0 };
+    let about = density * made.between(0.9, 1.1);
+    made.pick(&[FLOOR, FLOOR, FLOOR, FLOOR, FLOOR, any, ends, plain, about, about])
 }
 
 fn viscosity(made: &mut Made) -> f64 {
@@ -199,12 +214,16 @@ fn steps(made: &mut Made, cells: u64) -> u64 {
     made.below(most.min(2 + work / cells))
 }
 
+/// Floors that are not finite or not above 0.
+pub const WRONG_FLOORS: [f64; 9] = [f64::NAN, -f64::NAN, f64::INFINITY, f64::NEG_INFINITY, 0.0, -0.0, -5e-324, -FLOOR, -1.0];
+
 /// Each makes one thing of a case wrong. What the operation does not take must not matter.
-const FAULTS: [fn(&mut Case, &mut Made); 10] = [
+const FAULTS: [fn(&mut Case, &mut Made); 11] = [
     wrong_sides,
     wrong_length,
     wrong_viscosity,
     wrong_rate,
+    wrong_floor,
     wrong_force,
     wrong_face,
     wrong_place,
@@ -235,6 +254,10 @@ fn wrong_rate(case: &mut Case, made: &mut Made) {
     let wrong = [(2, f64::NAN), (2, f64::INFINITY), (2, -5e-324), (2, above), (3, 1.0), (u64::MAX, 1.0)];
     (case.settings.collision, case.settings.rate) = made.pick(&wrong);
     case.magic = None;
+}
+
+fn wrong_floor(case: &mut Case, made: &mut Made) {
+    case.settings.floor = made.pick(&WRONG_FLOORS);
 }
 
 fn wrong_force(case: &mut Case, made: &mut Made) {

@@ -20,8 +20,8 @@ fn tested(operation: Operation) -> &'static [u32] {
     match operation {
         Operation::Initialize | Operation::TotalMass => &[1, 2],
         Operation::Density | Operation::Plane => &[1, 2, 6],
-        Operation::Velocity => &[1, 2, 4, 6],
-        Operation::VelocityField | Operation::KineticEnergy => &[1, 2, 4],
+        Operation::Velocity => &[1, 2, 3, 4, 6],
+        Operation::VelocityField | Operation::KineticEnergy => &[1, 2, 3, 4],
         Operation::StreamWithFaces => &[1, 2, 5],
         Operation::Lossless => &[1, 5, 7],
         Operation::Reverse => &[1, 2, 5, 7, 8],
@@ -36,7 +36,8 @@ fn applies(number: u32, case: &Case) -> bool {
     match number {
         1 => !case.has_grid(),
         2 => case.operation.lent().iter().any(|&buffer| case.length(buffer) != case.right_length(buffer)),
-        3 => wrong_rates(s),
+        // Whatever tests 3 has a density test; rates are of those that collide.
+        3 => wrong_floor(s.floor) || case.operation.collides() && wrong_rates(s),
         4 => !s.fx.is_finite() || !s.fy.is_finite(),
         5 => {
             wrong_face(s.x_min, s.x_min.a)
@@ -60,7 +61,12 @@ fn applies(number: u32, case: &Case) -> bool {
     }
 }
 
-/// Number 3. A kind of collision that is none of the three counts as a Trt without a rate.
+/// Number 3, of the floor.
+fn wrong_floor(floor: f64) -> bool {
+    !floor.is_finite() || floor <= 0.0
+}
+
+/// Number 3, of the rates. A kind of collision that is none of the three counts as a Trt without a rate.
 fn wrong_rates(s: &Settings) -> bool {
     let tau = 3.0 * s.nu + 0.5;
     let rate_in_range = match s.collision {

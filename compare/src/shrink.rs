@@ -3,6 +3,7 @@
 use crate::case::{Case, Start};
 use crate::comparison::{Comparison, Difference};
 use brothwagon::ffi;
+use source::FLOOR;
 
 /// So many obstacles are left out one by one.
 const FEW: usize = 16;
@@ -36,17 +37,11 @@ fn simpler(comparison: &mut Comparison, case: &Case) -> Option<(Case, Difference
         with(&|case| case.steps = less(case.steps));
     }
     simpler_lists(&mut with, case.list.len());
-    for at in 0..4 {
-        with(&|case| *case.face_mut(at) = ffi::Face::default());
-        if case.faces()[at].kind > 1 {
-            with(&|case| *case.face_mut(at) = ffi::Face { kind: 1, a: 0.0, b: 0.0 });
-            with(&|case| (case.face_mut(at).a, case.face_mut(at).b) = (0.1, 0.0));
-            with(&|case| case.face_mut(at).b = 0.0);
-        }
-    }
+    simpler_faces(&mut with, case.faces());
     with(&|case| (case.settings.fx, case.settings.fy) = (0.0, 0.0));
     with(&|case| case.settings.fx = 0.0);
     with(&|case| case.settings.fy = 0.0);
+    with(&|case| case.settings.floor = FLOOR);
     with(&|case| (case.settings.collision, case.settings.rate, case.magic) = (0, 0.0, None));
     with(&|case| (case.settings.nu, case.magic) = (0.5, None));
     with(&|case| case.start = Start::Flow);
@@ -59,8 +54,23 @@ fn simpler(comparison: &mut Comparison, case: &Case) -> Option<(Case, Difference
     found
 }
 
+/// Tries what a change makes of a case.
+type With<'a> = dyn FnMut(&dyn Fn(&mut Case)) + 'a;
+
+/// Periodic faces, walls, or lower speeds.
+fn simpler_faces(with: &mut With, faces: [ffi::Face; 4]) {
+    for (at, face) in faces.iter().enumerate() {
+        with(&|case| *case.face_mut(at) = ffi::Face::default());
+        if face.kind > 1 {
+            with(&|case| *case.face_mut(at) = ffi::Face { kind: 1, a: 0.0, b: 0.0 });
+            with(&|case| (case.face_mut(at).a, case.face_mut(at).b) = (0.1, 0.0));
+            with(&|case| case.face_mut(at).b = 0.0);
+        }
+    }
+}
+
 /// Fewer obstacles, or nearer ones.
-fn simpler_lists(with: &mut dyn FnMut(&dyn Fn(&mut Case)), obstacles: usize) {
+fn simpler_lists(with: &mut With, obstacles: usize) {
     with(&|case| case.list.truncate(obstacles / 2));
     with(&|case| drop(case.list.drain(..obstacles / 2)));
     for at in 0..obstacles.min(FEW) {

@@ -16,11 +16,12 @@ const FASTEST: f64 = 0.3;
 /// The part of its mass by which a closed study may drift, through rounding.
 const DRIFT: f64 = 1e-9;
 
-const STUDIES: [(&str, &str); 4] = [
+const STUDIES: [(&str, &str); 5] = [
     ("cavity", include_str!("../../studies/cavity.study")),
     ("channel", include_str!("../../studies/channel.study")),
     ("shear", include_str!("../../studies/shear.study")),
     ("post", include_str!("../../studies/post.study")),
+    ("thin", include_str!("../../studies/thin.study")),
 ];
 
 /// Runs each study, all its steps if `whole`, and prints the fingerprint that the Rust gives it. Fails where the library gives

@@ -67,7 +67,7 @@ static void hold_to_tally(FILE *beside, const brothwagon_settings *cavity) {
 int main(void) {
     const brothwagon_face wall = {BROTHWAGON_NO_SLIP, 0.0, 0.0};
     const brothwagon_face lid = {BROTHWAGON_MOVING_WALL, 0.1, 0.0};
-    const brothwagon_settings cavity = {SIDE, SIDE, 0.02, 0.0, 0.0, BROTHWAGON_BGK, 0.0, wall, wall, wall, lid};
+    const brothwagon_settings cavity = {SIDE, SIDE, 0.02, 0.0, 0.0, BROTHWAGON_BGK, 0.0, wall, wall, wall, lid, 1e-12};
     FILE *file = tmpfile(), *beside = tmpfile();
     double mass[1], energy[1];
     uint64_t step;

@@ -6,6 +6,7 @@ use crate::questions::Ask;
 use crate::questions::lent::Lent;
 use crate::questions::seen::{Call, Difference, Seen};
 use crate::questions::shown;
+use crate::questions::states::settings;
 use brothwagon::ffi;
 use std::fmt;
 
@@ -43,7 +44,7 @@ impl Ask for Asked {
 
 impl Seen {
     fn writes_checkpoint(&mut self, header: &Header, f: &[f64], file: &mut Lent<u8>) -> Result<u32, Difference> {
-        let settings = ffi::Settings { nx: header.nx, ny: header.ny, ..ffi::Settings::default() };
+        let settings = settings((header.nx, header.ny));
         let mut wanted = file.clone();
         let refused = header.write(f, wanted.part());
         let number = ffi::write_checkpoint(&settings, header.step, f, file.part());

@@ -1,6 +1,18 @@
 //! Makes up the states of a grid, and what is wrong with how one is lent.
 
 use crate::made::Made;
+use crate::random::WRONG_FLOORS;
+use brothwagon::ffi;
+
+/// Settings of these sides. All else in them is such as other calls refuse, and must not matter. The floor is another on other
+/// sides, so that each wrong one is met.
+pub fn settings((nx, ny): (u64, u64)) -> ffi::Settings {
+    let none = ffi::Face { kind: 6, a: f64::NAN, b: f64::NAN };
+    let [x_min, x_max, y_min, y_max] = [none; 4];
+    let [nu, fx, fy, rate] = [f64::NAN; 4];
+    let floor = WRONG_FLOORS[nx.wrapping_add(ny) as usize % WRONG_FLOORS.len()];
+    ffi::Settings { nx, ny, nu, fx, fy, collision: 3, rate, x_min, x_max, y_min, y_max, floor }
+}
 
 /// Mostly small; one in so many is larger.
 pub fn sides(made: &mut Made, between_larger: u64) -> (u64, u64) {

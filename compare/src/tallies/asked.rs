@@ -7,6 +7,7 @@ use crate::questions::Ask;
 use crate::questions::lent::Lent;
 use crate::questions::seen::{Call, Difference, Met, Seen};
 use crate::questions::shown;
+use crate::questions::states::settings;
 use brothwagon::ffi;
 use std::fmt;
 
@@ -67,14 +68,6 @@ impl Ask for Asked {
     }
 }
 
-/// Settings of these sides. All else in them is such as other calls refuse, and must not matter.
-fn settings((nx, ny): (u64, u64)) -> ffi::Settings {
-    let none = ffi::Face { kind: 6, a: f64::NAN, b: f64::NAN };
-    let [x_min, x_max, y_min, y_max] = [none; 4];
-    let [nu, fx, fy, rate] = [f64::NAN; 4];
-    ffi::Settings { nx, ny, nu, fx, fy, collision: 3, rate, x_min, x_max, y_min, y_max }
-}
-
 fn ten(numbers: &mut Lent<u64>) -> &mut Tally {
     numbers.part().try_into().expect("a tally has ten numbers")
 }
@@ -114,7 +107,7 @@ impl Seen {
 
     fn streams(&mut self, (nx, ny): (u64, u64), kinds: [u64; 4], mut post: Lent<f64>) -> Result<(), Difference> {
         let [x_min, x_max, y_min, y_max] = kinds.map(|kind| ffi::Face { kind, ..ffi::Face::default() });
-        let settings = ffi::Settings { nx, ny, x_min, x_max, y_min, y_max, ..ffi::Settings::default() };
+        let settings = ffi::Settings { x_min, x_max, y_min, y_max, ..settings((nx, ny)) };
         let mut f = Lent::canaries(post.part().len(), 0);
         let streamed = ffi::stream_with_faces(&settings, post.part(), f.part());
         let (asked, [lossless, ..]) = ffi::lossless(&settings);

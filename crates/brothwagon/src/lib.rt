@@ -1,4 +1,4 @@
-// The library for hosts in other languages: each function asks one operation, and takes settings as nineteen words.
+// The library for hosts in other languages: each function asks one operation, and takes settings as twenty words.
 // include/brothwagon.h is its face in C. What a host lends for a small answer is always written, with zeros on a refusal.
 use checkpoint::Stored;
 use lossless::Answer;
@@ -21,7 +21,7 @@ ghost use Rattle.brothwagon.specs.Exported.{readingTold, velocityTold, p
 // ---- the start and the readings
 
 #[no_mangle]
-pub extern "C" fn brothwagon_initialize(w: &[u64; 19], table: &[u64], f: &mut [u64]) -> u32
+pub extern "C" fn brothwagon_initialize(w: &[u64; 20], table: &[u64], f: &mut [u64]) -> u32
     ensures { λ r. ⌜ outcome r (now (f .exit))
         ≡ initialized (settingsOf (now (w .entry))) (now (table .entry)) (now (f .entry)) ⌝ }
 {
@@ -30,7 +30,7 @@ pub extern "C" fn brothwagon_initialize(w: &[u64; 19], table: &[u64], f: &mut [u
 
 #[no_mangle]
 pub extern "C" fn brothwagon_density(
-    w: &[u64; 19],
+    w: &[u64; 20],
     f: &[u64],
     x: usize,
     y: usize,
@@ -46,7 +46,7 @@ pub extern "C" fn brothwagon_density(
 
 #[no_mangle]
 pub extern "C" fn brothwagon_velocity(
-    w: &[u64; 19],
+    w: &[u64; 20],
     f: &[u64],
     x: usize,
     y: usize,
@@ -61,7 +61,7 @@ pub extern "C" fn brothwagon_velocity(
 }
 
 #[no_mangle]
-pub extern "C" fn brothwagon_velocity_field(w: &[u64; 19], f: &[u64], u: &mut [u64]) -> u32
+pub extern "C" fn brothwagon_velocity_field(w: &[u64; 20], f: &[u64], u: &mut [u64]) -> u32
     ensures { λ r. ⌜ outcome r (now (u .exit))
         ≡ velocityFieldRead (settingsOf (now (w .entry))) (now (f .entry)) (now (u .entry)) ⌝ }
 {
@@ -69,7 +69,7 @@ pub extern "C" fn brothwagon_velocity_field(w: &[u64; 19], f: &[u64], u: &mut [u
 }
 
 #[no_mangle]
-pub extern "C" fn brothwagon_total_mass(w: &[u64; 19], f: &[u64], mass: &mut [u64; 1]) -> u32
+pub extern "C" fn brothwagon_total_mass(w: &[u64; 20], f: &[u64], mass: &mut [u64; 1]) -> u32
     ensures { λ r. ⌜ outcome r (now (mass .exit))
         ≡ readingTold (totalMassRead (settingsOf (now (w .entry))) (now (f .entry))) ⌝ }
 {
@@ -79,7 +79,7 @@ pub extern "C" fn brothwagon_total_mass(w: &[u64; 19], f: &[u64], mass: &mut [u6
 }
 
 #[no_mangle]
-pub extern "C" fn brothwagon_kinetic_energy(w: &[u64; 19], f: &[u64], energy: &mut [u64; 1]) -> u32
+pub extern "C" fn brothwagon_kinetic_energy(w: &[u64; 20], f: &[u64], energy: &mut [u64; 1]) -> u32
     ensures { λ r. ⌜ outcome r (now (energy .exit))
         ≡ readingTold (kineticEnergyRead (settingsOf (now (w .entry))) (now (f .entry))) ⌝ }
 {
@@ -91,7 +91,7 @@ pub extern "C" fn brothwagon_kinetic_energy(w: &[u64; 19], f: &[u64], energy: &m
 // A part of f cannot cross: where it starts and how many entries it has stand for it.
 #[no_mangle]
 pub extern "C" fn brothwagon_plane(
-    w: &[u64; 19],
+    w: &[u64; 20],
     f: &[u64],
     direction: usize,
     part: &mut [u64; 2],
@@ -109,7 +109,7 @@ pub extern "C" fn brothwagon_plane(
 // ---- streaming, the lossless question and the reverse
 
 #[no_mangle]
-pub extern "C" fn brothwagon_stream_with_faces(w: &[u64; 19], post: &[u64], f: &mut [u64]) -> u32
+pub extern "C" fn brothwagon_stream_with_faces(w: &[u64; 20], post: &[u64], f: &mut [u64]) -> u32
     ensures { λ r. ⌜ outcome r (now (f .exit))
         ≡ streamedWithFaces (settingsOf (now (w .entry))) (now (post .entry)) (now (f .entry)) ⌝ }
 {
@@ -117,7 +117,7 @@ pub extern "C" fn brothwagon_stream_with_faces(w: &[u64; 19], post: &[u64], f: &
 }
 
 #[no_mangle]
-pub extern "C" fn brothwagon_lossless(w: &[u64; 19], answer: &mut [u64; 4]) -> u32
+pub extern "C" fn brothwagon_lossless(w: &[u64; 20], answer: &mut [u64; 4]) -> u32
     ensures { λ r. ⌜ outcome r (now (answer .exit))
         ≡ losslessTold (reply (losslessOf (settingsOf (now (w .entry))))) ⌝ }
 {
@@ -139,7 +139,7 @@ pub extern "C" fn brothwagon_lossless(w: &[u64; 19], answer: &mut [u64; 4]) -> u
 }
 
 #[no_mangle]
-pub extern "C" fn brothwagon_reverse(w: &[u64; 19], f: &[u64], post: &mut [u64]) -> u32
+pub extern "C" fn brothwagon_reverse(w: &[u64; 20], f: &[u64], post: &mut [u64]) -> u32
     ensures { λ r. ⌜ outcome r (now (post .exit))
         ≡ reversedOf (settingsOf (now (w .entry))) (now (f .entry)) (now (post .entry)) ⌝ }
 {
@@ -149,7 +149,7 @@ pub extern "C" fn brothwagon_reverse(w: &[u64; 19], f: &[u64], post: &mut [u64])
 // ---- steps and runs
 
 #[no_mangle]
-pub extern "C" fn brothwagon_step(w: &[u64; 19], f: &mut [u64], post: &mut [u64]) -> u32
+pub extern "C" fn brothwagon_step(w: &[u64; 20], f: &mut [u64], post: &mut [u64]) -> u32
     ensures { λ r. ⌜ left r (now (f .exit)) (now (post .exit))
         ≡ stepOf (settingsOf (now (w .entry))) (now (f .entry)) (now (post .entry)) ⌝ }
 {
@@ -157,7 +157,7 @@ pub extern "C" fn brothwagon_step(w: &[u64; 19], f: &mut [u64], post: &mut [u64]
 }
 
 #[no_mangle]
-pub extern "C" fn brothwagon_run(w: &[u64; 19], steps: u64, f: &mut [u64], post: &mut [u64]) -> u32
+pub extern "C" fn brothwagon_run(w: &[u64; 20], steps: u64, f: &mut [u64], post: &mut [u64]) -> u32
     ensures { λ r. ⌜ left r (now (f .exit)) (now (post .exit))
         ≡ runOf (settingsOf (now (w .entry))) steps (now (f .entry)) (now (post .entry)) ⌝ }
 {
@@ -166,7 +166,7 @@ pub extern "C" fn brothwagon_run(w: &[u64; 19], steps: u64, f: &mut [u64], post:
 
 #[no_mangle]
 pub extern "C" fn brothwagon_run_to_steady_state(
-    w: &[u64; 19],
+    w: &[u64; 20],
     tolerance: f64,
     max_steps: u64,
     check_every: u64,
@@ -205,7 +205,7 @@ pub extern "C" fn brothwagon_run_to_steady_state(
 
 // It hands the list on: a library has only what its own crate gives out.
 #[no_mangle]
-pub extern "C" fn brothwagon_set_no_slip_bc(w: &[u64; 19], list: &[Obstacle], f: &mut [u64]) -> u32
+pub extern "C" fn brothwagon_set_no_slip_bc(w: &[u64; 20], list: &[Obstacle], f: &mut [u64]) -> u32
     ensures { λ r. ⌜ outcome r (now (f .exit))
         ≡ noSlipSet (settingsOf (now (w .entry))) (now (list .entry)) (now (f .entry)) ⌝ }
 {
@@ -216,7 +216,7 @@ pub extern "C" fn brothwagon_set_no_slip_bc(w: &[u64; 19], list: &[Obstacle], f:
 
 #[no_mangle]
 pub extern "C" fn brothwagon_write_checkpoint(
-    w: &[u64; 19],
+    w: &[u64; 20],
     step: u32,
     f: &[u64],
     file: &mut [u8],
@@ -259,7 +259,7 @@ pub extern "C" fn brothwagon_read_checkpoint(
 // ---- the tally: an answer where it is worked out, and a lent buffer where it is moved or read
 
 #[no_mangle]
-pub extern "C" fn brothwagon_tally(w: &[u64; 19], f: &[u64], t: &mut [u64; 10]) -> u32
+pub extern "C" fn brothwagon_tally(w: &[u64; 20], f: &[u64], t: &mut [u64; 10]) -> u32
     ensures { λ r. ⌜ outcome r (now (t .exit))
         ≡ tallyTold (tallied (settingsOf (now (w .entry))) (now (f .entry))) ⌝ }
 {
@@ -272,7 +272,7 @@ pub extern "C" fn brothwagon_tally(w: &[u64; 19], f: &[u64], t: &mut [u64; 10]) 
 
 #[no_mangle]
 pub extern "C" fn brothwagon_write_entry(
-    w: &[u64; 19],
+    w: &[u64; 20],
     x: usize,
     y: usize,
     direction: usize,

@@ -14,15 +14,15 @@ pub momentum-of : (e : ℕ → Float) (f : List Float) {l : List Float} {r : Flo
 unfolding sumOfProducts sumTo
 momentum-of e f p q = rw q at p
 
-module _ (collide : List Float → List Float → List Float → List Float) (f : List Float) (fx fy : Float) {m : Moments} {feq r : List Float}
-    (em : m ≡ collisionMoments f fx fy) (ef : feq ≡ equilibriaOf m) where
+module _ (collide : List Float → List Float → List Float → List Float) (f : List Float) (fx fy floor : Float) {m : Moments} {feq r : List Float}
+    (em : m ≡ collisionMoments f fx fy floor) (ef : feq ≡ equilibriaOf m) where
   -- without a force
-  pub cell-unforced : forcedBy fx fy ≡ false → r ≡ collide f feq noSource → r ≡ cellBy collide f fx fy
+  pub cell-unforced : forcedBy fx fy ≡ false → r ≡ collide f feq noSource → r ≡ cellBy collide f fx fy floor
   unfolding cellBy sourcesOf
   cell-unforced e er = rw (e, ← em, ← ef) er
 
   -- with one
-  pub cell-forced : {src : List Float} → forcedBy fx fy ≡ true → src ≡ guoSources m fx fy → r ≡ collide f feq src → r ≡ cellBy collide f fx fy
+  pub cell-forced : {src : List Float} → forcedBy fx fy ≡ true → src ≡ guoSources m fx fy → r ≡ collide f feq src → r ≡ cellBy collide f fx fy floor
   unfolding cellBy sourcesOf
   cell-forced e es er = rw (e, ← em, ← ef, ← es) er
 

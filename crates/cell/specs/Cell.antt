@@ -4,7 +4,7 @@ use mathlib.Core.List.{List, [], _∷_}
 use Prim.Native.Nat.{ℕ}
 use lib.ListN.{getD}
 use lib.Ieee.{Float, lt}
-use Rattle.number.specs.Number.{valueOf, _⊕_, _⊖_, _⊗_, _⊘_, c0, c½, c1, c1½, c1·54, c1·64, c2, c3, c4½, c8, c9, notBothZero, magnitudeOf}
+use Rattle.number.specs.Number.{_⊕_, _⊖_, _⊗_, _⊘_, c0, c½, c1, c1½, c1·54, c1·64, c2, c3, c4½, c8, c9, notBothZero, magnitudeOf}
 use Rattle.number.specs.Nine.{at, nine, sumTo}
 use Rattle.lattice.specs.Lattice.{ex, ey, W, OPP, basisFloats, normFloats}
 use Rattle.cell.specs.declared.Moments.{Moments}
@@ -28,29 +28,26 @@ momentumX f = sumTo (λ i. at f i ⊗ ex i) 9
 unfoldable pub momentumY : List Float → Float
 momentumY f = sumTo (λ i. at f i ⊗ ey i) 9
 
--- ---- the two readings, for the force (fx, fy)
+-- ---- the two readings, for the force (fx, fy) and the floor: below it a density is too small to divide by
 
--- 1e-12: below it a density is too small to divide by
-abbrev pub tiny : Float
-tiny = valueOf 0x3d71_9799_812d_ea11
-
--- what is read of a cell: at rest where the density is below `tiny`, negative densities included
-unfoldable pub readMoments : List Float → Float → Float → Moments
-readMoments f fx fy =
+-- what is read of a cell: at rest where the density is below the floor, negative densities included
+unfoldable pub readMoments : List Float → Float → Float → Float → Moments
+readMoments f fx fy floor =
     let rho = densityOf f in
-    cond (lt rho tiny)
+    cond (lt rho floor)
     (record { density = rho; ux = c0; uy = c0 })
     (record { density = rho; ux = (momentumX f ⊕ c½ ⊗ fx) ⊘ rho; uy = (momentumY f ⊕ c½ ⊗ fy) ⊘ rho })
 
--- collision's inverse of the density: 0 only where the magnitude is below `tiny`
-unfoldable pub inverseOf : Float → Float
-inverseOf rho = cond (lt (magnitudeOf rho) tiny) c0 (c1 ⊘ rho)
+-- collision's inverse of the density: 0 only where the magnitude is below the floor
+unfoldable pub inverseOf : Float → Float → Float
+inverseOf rho floor = cond (lt (magnitudeOf rho) floor) c0 (c1 ⊘ rho)
 
 -- what collision works with
-unfoldable pub collisionMoments : List Float → Float → Float → Moments
-collisionMoments f fx fy =
+unfoldable pub collisionMoments : List Float → Float → Float → Float → Moments
+collisionMoments f fx fy floor =
     let rho = densityOf f in
-    record { density = rho; ux = (momentumX f ⊕ c½ ⊗ fx) ⊗ inverseOf rho; uy = (momentumY f ⊕ c½ ⊗ fy) ⊗ inverseOf rho }
+    let inverse = inverseOf rho floor in
+    record { density = rho; ux = (momentumX f ⊕ c½ ⊗ fx) ⊗ inverse; uy = (momentumY f ⊕ c½ ⊗ fy) ⊗ inverse }
 
 -- ---- equilibrium and Guo's source
 
@@ -166,8 +163,8 @@ mrt r f feq src = nine (backAt basisFloats normFloats (relaxedMoments r f feq sr
 -- ---- one cell's collision
 
 -- by any of the three
-unfoldable pub cellBy : (List Float → List Float → List Float → List Float) → List Float → Float → Float → List Float
-cellBy collide f fx fy = let m = collisionMoments f fx fy in collide f (equilibriaOf m) (sourcesOf m fx fy)
+unfoldable pub cellBy : (List Float → List Float → List Float → List Float) → List Float → Float → Float → Float → List Float
+cellBy collide f fx fy floor = let m = collisionMoments f fx fy floor in collide f (equilibriaOf m) (sourcesOf m fx fy)
 
 -- by kind
 unfoldable pub collidedBy : Collision → Float → List Float → List Float → List Float → List Float
@@ -175,5 +172,5 @@ collidedBy Bgk tau = bgk (bgkRates tau)
 collidedBy Mrt tau = mrt (mrtRates tau)
 collidedBy (Trt rate) tau = trt (trtRates tau rate)
 
-unfoldable pub collided : Collision → List Float → Float → Float → Float → List Float
-collided k f tau fx fy = cellBy (collidedBy k tau) f fx fy
+unfoldable pub collided : Collision → List Float → Float → Float → Float → Float → List Float
+collided k f tau fx fy floor = cellBy (collidedBy k tau) f fx fy floor

@@ -48,19 +48,19 @@ fn collide_bgk(f: [f64; 9], feq: [f64; 9], src: [f64; 9], rates: BgkRates) -> [f
     ]
 }
 
-pub fn bgk_cell(f: [f64; 9], fx: f64, fy: f64, rates: BgkRates) -> [f64; 9]
+pub fn bgk_cell(f: [f64; 9], fx: f64, fy: f64, floor: f64, rates: BgkRates) -> [f64; 9]
     requires { ⌜ forcedBy fx fy ≡ false ⌝ }
-    ensures { λ r. ⌜ r ≡ cellBy (bgk rates) f fx fy ⌝ }
+    ensures { λ r. ⌜ r ≡ cellBy (bgk rates) f fx fy floor ⌝ }
 {
-    let m = collision_moments(f, fx, fy);
+    let m = collision_moments(f, fx, fy, floor);
     collide_bgk(f, equilibria(m), [0.0; 9], rates)
 }
 
-pub fn bgk_cell_forced(f: [f64; 9], fx: f64, fy: f64, rates: BgkRates) -> [f64; 9]
+pub fn bgk_cell_forced(f: [f64; 9], fx: f64, fy: f64, floor: f64, rates: BgkRates) -> [f64; 9]
     requires { ⌜ forcedBy fx fy ≡ true ⌝ }
-    ensures { λ r. ⌜ r ≡ cellBy (bgk rates) f fx fy ⌝ }
+    ensures { λ r. ⌜ r ≡ cellBy (bgk rates) f fx fy floor ⌝ }
 {
-    let m = collision_moments(f, fx, fy);
+    let m = collision_moments(f, fx, fy, floor);
     collide_bgk(
         f,
         equilibria(m),
@@ -70,10 +70,10 @@ pub fn bgk_cell_forced(f: [f64; 9], fx: f64, fy: f64, rates: BgkRates) -> [f64; 
 }
 
 // With a force and without. It chooses its source itself: a function that the kinds shared for it would stay a call in their loops.
-pub fn bgk_cell_any(f: [f64; 9], fx: f64, fy: f64, rates: BgkRates) -> [f64; 9]
-    ensures { λ r. ⌜ r ≡ cellBy (bgk rates) f fx fy ⌝ }
+pub fn bgk_cell_any(f: [f64; 9], fx: f64, fy: f64, floor: f64, rates: BgkRates) -> [f64; 9]
+    ensures { λ r. ⌜ r ≡ cellBy (bgk rates) f fx fy floor ⌝ }
 {
-    let m = collision_moments(f, fx, fy);
+    let m = collision_moments(f, fx, fy, floor);
     let feq = equilibria(m);
     if forced(fx, fy) {
         collide_bgk(f, feq, guo_sources(m, fx, fy, along_force(fx, fy)), rates)

@@ -64,15 +64,12 @@ fn momentum_y(f: [f64; 9]) -> f64
     )
 }
 
-// Below it a density is too small to divide by. Each reading has its own test.
-const TINY: f64 = 1e-12;
-
-// What is read of a cell: at rest where the density is below `TINY`, negative densities included.
-pub fn read_moments(f: [f64; 9], fx: f64, fy: f64) -> Moments
-    ensures { λ r. ⌜ r ≡ readMoments f fx fy ⌝ }
+// What is read of a cell: at rest where the density is below the floor, negative densities included. Collision has a test of its own.
+pub fn read_moments(f: [f64; 9], fx: f64, fy: f64, floor: f64) -> Moments
+    ensures { λ r. ⌜ r ≡ readMoments f fx fy floor ⌝ }
 {
     let rho = density(f);
-    if rho < TINY {
+    if rho < floor {
         return Moments {
             density: rho,
             ux: 0.0,
@@ -86,11 +83,11 @@ pub fn read_moments(f: [f64; 9], fx: f64, fy: f64) -> Moments
     }
 }
 
-// Collision's inverse of the density: 0 only where the magnitude is below `TINY`.
-fn inverse(rho: f64) -> f64
-    ensures { λ r. ⌜ r ≡ inverseOf rho ⌝ }
+// Collision's inverse of the density: 0 only where the magnitude is below the floor.
+fn inverse(rho: f64, floor: f64) -> f64
+    ensures { λ r. ⌜ r ≡ inverseOf rho floor ⌝ }
 {
-    if number::magnitude(rho) < TINY {
+    if number::magnitude(rho) < floor {
         0.0
     } else {
         1.0 / rho
@@ -98,11 +95,11 @@ fn inverse(rho: f64) -> f64
 }
 
 // What collision works with.
-pub fn collision_moments(f: [f64; 9], fx: f64, fy: f64) -> Moments
-    ensures { λ r. ⌜ r ≡ collisionMoments f fx fy ⌝ }
+pub fn collision_moments(f: [f64; 9], fx: f64, fy: f64, floor: f64) -> Moments
+    ensures { λ r. ⌜ r ≡ collisionMoments f fx fy floor ⌝ }
 {
     let rho = density(f);
-    let inv_rho = inverse(rho);
+    let inv_rho = inverse(rho, floor);
     Moments {
         density: rho,
         ux: (momentum_x(f) + 0.5 * fx) * inv_rho,

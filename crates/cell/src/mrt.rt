@@ -87,10 +87,10 @@ fn collide_mrt(f: [f64; 9], feq: [f64; 9], src: [f64; 9], rates: MrtRates) -> [f
     ]
 }
 
-pub fn mrt_cell(f: [f64; 9], fx: f64, fy: f64, rates: MrtRates) -> [f64; 9]
-    ensures { λ r. ⌜ r ≡ cellBy (mrt rates) f fx fy ⌝ }
+pub fn mrt_cell(f: [f64; 9], fx: f64, fy: f64, floor: f64, rates: MrtRates) -> [f64; 9]
+    ensures { λ r. ⌜ r ≡ cellBy (mrt rates) f fx fy floor ⌝ }
 {
-    let m = collision_moments(f, fx, fy);
+    let m = collision_moments(f, fx, fy, floor);
     let feq = equilibria(m);
     if forced(fx, fy) {
         collide_mrt(f, feq, guo_sources(m, fx, fy, along_force(fx, fy)), rates)

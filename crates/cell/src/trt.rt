@@ -93,28 +93,28 @@ fn collide_trt(f: [f64; 9], feq: [f64; 9], src: [f64; 9], rates: TrtRates) -> [f
     trt_sourced(trt_relaxed(f, feq, rates), src, rates)
 }
 
-pub fn trt_cell(f: [f64; 9], fx: f64, fy: f64, rates: TrtRates) -> [f64; 9]
+pub fn trt_cell(f: [f64; 9], fx: f64, fy: f64, floor: f64, rates: TrtRates) -> [f64; 9]
     requires { ⌜ forcedBy fx fy ≡ false ⌝ }
-    ensures { λ r. ⌜ r ≡ cellBy (trt rates) f fx fy ⌝ }
+    ensures { λ r. ⌜ r ≡ cellBy (trt rates) f fx fy floor ⌝ }
 {
-    let m = collision_moments(f, fx, fy);
+    let m = collision_moments(f, fx, fy, floor);
     let kept = trt_relaxed(f, equilibria(m), rates);
     trt_sourced(kept, [0.0; 9], rates)
 }
 
-pub fn trt_cell_forced(f: [f64; 9], fx: f64, fy: f64, rates: TrtRates) -> [f64; 9]
+pub fn trt_cell_forced(f: [f64; 9], fx: f64, fy: f64, floor: f64, rates: TrtRates) -> [f64; 9]
     requires { ⌜ forcedBy fx fy ≡ true ⌝ }
-    ensures { λ r. ⌜ r ≡ cellBy (trt rates) f fx fy ⌝ }
+    ensures { λ r. ⌜ r ≡ cellBy (trt rates) f fx fy floor ⌝ }
 {
-    let m = collision_moments(f, fx, fy);
+    let m = collision_moments(f, fx, fy, floor);
     let kept = trt_relaxed(f, equilibria(m), rates);
     trt_sourced(kept, guo_sources(m, fx, fy, along_force(fx, fy)), rates)
 }
 
-pub fn trt_cell_any(f: [f64; 9], fx: f64, fy: f64, rates: TrtRates) -> [f64; 9]
-    ensures { λ r. ⌜ r ≡ cellBy (trt rates) f fx fy ⌝ }
+pub fn trt_cell_any(f: [f64; 9], fx: f64, fy: f64, floor: f64, rates: TrtRates) -> [f64; 9]
+    ensures { λ r. ⌜ r ≡ cellBy (trt rates) f fx fy floor ⌝ }
 {
-    let m = collision_moments(f, fx, fy);
+    let m = collision_moments(f, fx, fy, floor);
     let feq = equilibria(m);
     if forced(fx, fy) {
         collide_trt(f, feq, guo_sources(m, fx, fy, along_force(fx, fy)), rates)

@@ -30,6 +30,7 @@ pub fn sized(nx: usize, ny: usize) -> Settings {
         x_max: Face::Periodic,
         y_min: Face::Periodic,
         y_max: Face::Periodic,
+        floor: 1e-12,
     }
 }
 

@@ -1,4 +1,4 @@
--- The settings as a host lends them: nineteen words of 64 bits, field by field those of the C struct.
+-- The settings as a host lends them: twenty words of 64 bits, field by field those of the C struct.
 use mathlib.Core.Bool.{cond}
 use mathlib.Core.List.{List}
 use Prim.Native.Nat.{ℕ, _+_}
@@ -51,4 +51,5 @@ settingsOf w = record {
   «x_max» = faceAt w 10;
   «y_min» = faceAt w 13;
   «y_max» = faceAt w 16;
+  floor = numberAt w 19;
 }

@@ -1,4 +1,4 @@
-// The settings of a study as a host in another language lends them: nineteen words of 64 bits.
+// The settings of a study as a host in another language lends them: twenty words of 64 bits.
 use cell::Collision;
 use settings::Face;
 use settings::Settings;
@@ -50,20 +50,20 @@ fn collision_of_kind(kind: u64, rate: f64) -> Collision
 }
 
 // The face of the three words from k on.
-fn face_at(w: &[u64; 19], k: usize) -> Face
+fn face_at(w: &[u64; 20], k: usize) -> Face
     requires { ⌜ k < 17 ⌝ }
     ensures { λ r. ⌜ r ≡ faceAt (now (w .entry)) k ⌝ }
 {
     face_of_kind(w[k], number::value(w[k + 1]), number::value(w[k + 2]))
 }
 
-fn collision_at(w: &[u64; 19]) -> Collision
+fn collision_at(w: &[u64; 20]) -> Collision
     ensures { λ r. ⌜ r ≡ collisionOfKind (wordAt (now (w .entry)) 5) (numberAt (now (w .entry)) 6) ⌝ }
 {
     collision_of_kind(w[5], number::value(w[6]))
 }
 
-pub fn settings_of(w: &[u64; 19]) -> Settings
+pub fn settings_of(w: &[u64; 20]) -> Settings
     ensures { λ r. ⌜ r ≡ settingsOf (now (w .entry)) ⌝ }
 {
     let collision = collision_at(w);
@@ -82,5 +82,6 @@ pub fn settings_of(w: &[u64; 19]) -> Settings
         x_max,
         y_min,
         y_max,
+        floor: number::value(w[19]),
     }
 }

@@ -172,6 +172,7 @@ fn study(a: u8, b: u8, c: u8, d: u8, nx: usize, ny: usize) -> Settings
         x_max: face(b),
         y_min: face(c),
         y_max: face(d),
+        floor: 0.0,
     }
 }
 

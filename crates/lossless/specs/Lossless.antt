@@ -32,6 +32,7 @@ faced nx ny a b c d = record {
   «x_max» = b;
   «y_min» = c;
   «y_max» = d;
+  floor = c0;
 }
 
 -- a lent buffer: nine entries a cell, 64 bits an entry

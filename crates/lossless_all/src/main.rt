@@ -32,6 +32,7 @@ fn settings_of(nx: usize, ny: usize, q: u64) -> Settings {
         x_max,
         y_min,
         y_max,
+        floor: 1e-12,
     }
 }
 

@@ -35,6 +35,10 @@ only i v = set (nine (λ k. c0)) i v
 abbrev pub c-1 : Float
 c-1 = valueOf 0xbff0_0000_0000_0000
 
+-- the floor 1e-12
+abbrev pub c1e-12 : Float
+c1e-12 = valueOf 0x3d71_9799_812d_ea11
+
 abbrev pub c¼ : Float
 c¼ = valueOf 0x3fd0_0000_0000_0000
 
@@ -74,11 +78,11 @@ table =
     -- C7 x min NoSlip, x max Periodic, y Periodic: lossy at (2,0,1), index 8
     ∷ (question (faced 3 2 NoSlip Periodic Periodic Periodic) ++ (numbered 2 0 1 ∷ [])) is (0 ∷ 2 ∷ 0 ∷ 1 ∷ 8 ∷ [])
     -- C8 only population 1 is 1.0, no force: ρ 1, velocity (1, 0)
-    ∷ (let m = readMoments (only 1 c1) c0 c0 in
+    ∷ (let m = readMoments (only 1 c1) c0 c0 c1e-12 in
     patterns (m .density ∷ m .ux ∷ m .uy ∷ []) is patterns (c1 ∷ c1 ∷ c0 ∷ []))
     -- C9 only population 0 is -1.0: velocity (0, 0), collision's inverse is -1
-    ∷ (let m = readMoments (only 0 c-1) c0 c0 in
-    patterns (m .ux ∷ m .uy ∷ inverseOf (m .density) ∷ []) is patterns (c0 ∷ c0 ∷ c-1 ∷ []))
+    ∷ (let m = readMoments (only 0 c-1) c0 c0 c1e-12 in
+    patterns (m .ux ∷ m .uy ∷ inverseOf (m .density) c1e-12 ∷ []) is patterns (c0 ∷ c0 ∷ c-1 ∷ []))
     -- C10 BGK, τ 2, f 1, equilibrium 0, source 0: 0.5
     ∷ patterns (bgk (bgkRates c2) (nine (λ i. c1)) (nine (λ i. c0)) noSource) is patterns (nine (λ i. c½))
     -- C11 TRT, τ 2, minus rate 1, f1 = 1, all else 0: entries 1 and 3 both become 0.25

@@ -47,7 +47,7 @@ densityAt s f c = densityOf (cellOf f (s .nx * s .ny) c)
 
 -- the velocity, beside the density
 abbrev pub velocityAt : Settings → List ℕ → ℕ → Moments
-velocityAt s f c = readMoments (cellOf f (s .nx * s .ny) c) (s .fx) (s .fy)
+velocityAt s f c = readMoments (cellOf f (s .nx * s .ny) c) (s .fx) (s .fy) (s .floor)
 
 -- one number read, and zero where it is refused
 abbrev pub reading : ℕ → Float → Reading

@@ -74,12 +74,12 @@ fn read_density(f: &[u64], n: usize, c: usize) -> f64
     cell::density(grid::gather(f, n, c))
 }
 
-// The same cell's velocity beside its density, with half of the force (fx, fy) in it.
-pub fn read_velocity(f: &[u64], n: usize, c: usize, fx: f64, fy: f64) -> Moments
+// The same cell's velocity beside its density, with half of the force (fx, fy) in it, and at rest below the floor.
+pub fn read_velocity(f: &[u64], n: usize, c: usize, fx: f64, fy: f64, floor: f64) -> Moments
     requires { ⌜ Holds (now f) n c ⌝ }
-    ensures { λ r. ⌜ r ≡ readMoments (cellOf (now (f .entry)) n c) fx fy ⌝ }
+    ensures { λ r. ⌜ r ≡ readMoments (cellOf (now (f .entry)) n c) fx fy floor ⌝ }
 {
-    cell::read_moments(grid::gather(f, n, c), fx, fy)
+    cell::read_moments(grid::gather(f, n, c), fx, fy, floor)
 }
 
 pub fn density(s: Settings, f: &[u64], x: usize, y: usize) -> Reading
@@ -106,7 +106,7 @@ pub fn velocity(s: Settings, f: &[u64], x: usize, y: usize) -> VelocityReading
             uy: 0.0,
         };
     }
-    let m = read_velocity(f, s.nx * s.ny, x + y * s.nx, s.fx, s.fy);
+    let m = read_velocity(f, s.nx * s.ny, x + y * s.nx, s.fx, s.fy, s.floor);
     VelocityReading {
         number: 0,
         ux: m.ux,
@@ -125,7 +125,7 @@ pub fn velocity_cells(s: Settings, f: &[u64], u: &mut [u64])
     let n = s.nx * s.ny;
     let mut c = 0;
     while c < n {
-        let m = read_velocity(f, n, c, s.fx, s.fy);
+        let m = read_velocity(f, n, c, s.fx, s.fy, s.floor);
         u[2 * c] = number::pattern(m.ux);
         u[2 * c + 1] = number::pattern(m.uy);
         c += 1;
@@ -183,7 +183,7 @@ fn energy(s: Settings, f: &[u64]) -> f64
     let mut ke = 0.0;
     let mut c = 0;
     while c < n {
-        let m = read_velocity(f, n, c, s.fx, s.fy);
+        let m = read_velocity(f, n, c, s.fx, s.fy, s.floor);
         ke += 0.5 * m.density * (m.ux * m.ux + m.uy * m.uy);
         c += 1;
     }

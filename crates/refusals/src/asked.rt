@@ -1,6 +1,7 @@
 // The questions beside the operations, which take lengths and no buffers: bounds from both sides, and the order of the numbers.
 use crate::given::colliding;
 use crate::given::faced;
+use crate::given::floored;
 use crate::given::forced;
 use crate::given::infinity;
 use crate::given::nan;
@@ -118,6 +119,44 @@ fn rates() {
     step(b"minus rate NaN", colliding(Collision::Trt(nan())));
 }
 
+fn floors() {
+    velocity(b"floor 5e-324", floored(5e-324));
+    velocity(
+        b"floor 1.7976931348623157e308",
+        floored(1.7976931348623157e308),
+    );
+    velocity(b"floor 0", floored(0.0));
+    velocity(b"floor -5e-324", floored(-5e-324));
+    step(b"floor 5e-324", floored(5e-324));
+    step(b"floor infinite", floored(infinity()));
+}
+
+// Of number 3 a reading tests the floor alone.
+fn rates_unread() {
+    velocity(b"viscosity NaN", viscous(nan()));
+    velocity(b"minus rate NaN", colliding(Collision::Trt(nan())));
+}
+
+fn floors_unread() {
+    let s = floored(nan());
+    let initialize = settings::initialize_refusal(s, 18, 54);
+    show::number(b"initialize_refusal", b"floor NaN", initialize);
+    density(b"floor NaN", s, 0, 0);
+    let total_mass = settings::total_mass_refusal(s, 54);
+    show::number(b"total_mass_refusal", b"floor NaN", total_mass);
+    let plane = settings::plane_refusal(s, 54, 0);
+    show::number(b"plane_refusal", b"floor NaN", plane);
+    stream(b"floor NaN", s);
+    lossless(b"floor NaN", s);
+    reverse(b"floor NaN", s);
+    let tally = settings::tally_refusal(s, 54);
+    show::number(b"tally_refusal", b"floor NaN", tally);
+    let write_entry = settings::write_entry_refusal(s, 54, 0, 0, 0);
+    show::number(b"write_entry_refusal", b"floor NaN", write_entry);
+    let write_checkpoint = settings::write_checkpoint_refusal(s, 54, 445);
+    show::number(b"write_checkpoint_refusal", b"floor NaN", write_checkpoint);
+}
+
 fn forces() {
     velocity(b"force NaN", forced(nan(), 0.0));
     velocity(b"force minus infinity", forced(-infinity(), 0.0));
@@ -233,6 +272,9 @@ pub fn all() {
     lengths();
     viscosities();
     rates();
+    floors();
+    rates_unread();
+    floors_unread();
     forces();
     x_speeds();
     y_speeds();

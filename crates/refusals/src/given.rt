@@ -31,6 +31,7 @@ fn study(
         x_max,
         y_min,
         y_max,
+        floor: 1e-12,
     }
 }
 
@@ -50,6 +51,12 @@ pub fn sized(nx: usize, ny: usize) -> Settings {
 pub fn viscous(nu: f64) -> Settings {
     let mut s = sized(3, 2);
     s.nu = nu;
+    s
+}
+
+pub fn floored(floor: f64) -> Settings {
+    let mut s = sized(3, 2);
+    s.floor = floor;
     s
 }
 

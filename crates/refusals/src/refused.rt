@@ -2,6 +2,7 @@
 use crate::calls;
 use crate::given::colliding;
 use crate::given::faced;
+use crate::given::floored;
 use crate::given::forced;
 use crate::given::infinity;
 use crate::given::nan;
@@ -91,6 +92,16 @@ fn rates() {
     steady(b"minus rate 3", colliding(Collision::Trt(3.0)), 0.0, 1);
 }
 
+// Number 3 of the floor, which readings test too.
+fn floors() {
+    calls::velocity(b"floor NaN", floored(nan()), &F, 0, 0);
+    velocity_field(b"floor 0", floored(0.0));
+    calls::kinetic_energy(b"floor infinite", floored(infinity()), &F);
+    step(b"floor -1", floored(-1.0));
+    run(b"floor -0", floored(-0.0), 1);
+    steady(b"floor -infinite", floored(-infinity()), 0.0, 1);
+}
+
 // Number 4.
 fn forces() {
     calls::velocity(b"fx infinite", forced(infinity(), 0.0), &F, 0, 0);
@@ -168,6 +179,10 @@ fn order() {
     );
     calls::plane(b"populations 53, direction 9", sized(3, 2), &short, 9);
     calls::velocity(b"fx NaN, at 3, 0", forced(nan(), 0.0), &F, 3, 0);
+    let mut s = floored(nan());
+    calls::velocity(b"populations 53, floor NaN", s, &short, 0, 0);
+    s.fx = nan();
+    calls::velocity(b"floor NaN, fx NaN, at 3, 0", s, &F, 3, 0);
     calls::tally(b"0 by 1, populations 53", sized(0, 1), &short);
     let mut f = short;
     calls::write_entry(b"populations 53, at 3, 0", sized(3, 2), 3, 0, 0, &mut f);
@@ -181,6 +196,7 @@ pub fn all() {
     sides_carried();
     sides_stepped();
     rates();
+    floors();
     forces();
     faces_streamed();
     faces_elsewhere();

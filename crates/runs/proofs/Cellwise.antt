@@ -30,29 +30,29 @@ use Rattle.runs.specs.Steps.{collidedEntry, collidedBuffer}
 
 -- ---- a pass by any of the three collisions: the invariant of its loop, and what answers each of its needs
 
-pub record Passing (collide : List Float → List Float → List Float → List Float) (fx fy : Float) (n : ℕ) (f d e : List ℕ) (c : ℕ) : Type 0 where
+pub record Passing (collide : List Float → List Float → List Float → List Float) (fx fy floor : Float) (n : ℕ) (f d e : List ℕ) (c : ℕ) : Type 0 where
   pub low : c ≤ n
-  pub cells : Cells d e n c (entryBy collide fx fy f n)
+  pub cells : Cells d e n c (entryBy collide fx fy floor f n)
 
-module _ {collide : List Float → List Float → List Float → List Float} {fx fy : Float} {n : ℕ} {f d : List ℕ} where
-  pub pass-none : Passing collide fx fy n f d d 0
-  pass-none = record { low = omega arith; cells = cells-none d n (entryBy collide fx fy f n) }
+module _ {collide : List Float → List Float → List Float → List Float} {fx fy floor : Float} {n : ℕ} {f d : List ℕ} where
+  pub pass-none : Passing collide fx fy floor n f d d 0
+  pass-none = record { low = omega arith; cells = cells-none d n (entryBy collide fx fy floor f n) }
 
   -- one cell more: what was gathered, collided and put back
-  pub pass-more : {e g : List ℕ} {c : ℕ} {l v : List Float} → Put e g n c (λ i. patternOf (at v i)) → Passing collide fx fy n f d e c → c < n
-      → v ≡ cellBy collide l fx fy → l ≡ cellOf f n c → Passing collide fx fy n f d g (c + 1)
+  pub pass-more : {e g : List ℕ} {c : ℕ} {l v : List Float} → Put e g n c (λ i. patternOf (at v i)) → Passing collide fx fy floor n f d e c → c < n
+      → v ≡ cellBy collide l fx fy floor → l ≡ cellOf f n c → Passing collide fx fy floor n f d g (c + 1)
   pass-more {e} {g} {c} {l} {v} p w h r q =
       record {
         low = omega arith;
-        cells = cell-more d e g n c (entryBy collide fx fy f n) (λ i. patternOf (at v i)) h (w .cells) p
-            (λ i b. ap (λ (x : List Float). patternOf (at x i)) (r ∙ ap (λ (x : List Float). cellBy collide x fx fy) q));
+        cells = cell-more d e g n c (entryBy collide fx fy floor f n) (λ i. patternOf (at v i)) h (w .cells) p
+            (λ i b. ap (λ (x : List Float). patternOf (at x i)) (r ∙ ap (λ (x : List Float). cellBy collide x fx fy floor) q));
       }
 
-  pub pass-done : {e : List ℕ} {c : ℕ} → Passing collide fx fy n f d e c → n ≤ c → length d ≡ 9 * n → e ≡ passed collide fx fy n f
+  pub pass-done : {e : List ℕ} {c : ℕ} → Passing collide fx fy floor n f d e c → n ≤ c → length d ≡ 9 * n → e ≡ passed collide fx fy floor n f
   unfolding passed
   pass-done {e} w h size =
       let all = rw (le-antisymm (w .low) h) at (w .cells) in
-      is-listed (9 * n) e (λ k. entryBy collide fx fy f n (k % n) (k / n)) (all .size ∙ size)
+      is-listed (9 * n) e (λ k. entryBy collide fx fy floor f n (k % n) (k / n)) (all .size ∙ size)
       (λ k b.
       let some : 0 < n = omega arith in
       ap (λ (j : ℕ). getD e j 0) (sym (mod-add-div' k n)) ∙ all .written (k % n) (k / n) (mod-lt k some) (div-lt-iff-lt-mul some .1 b))
@@ -68,21 +68,21 @@ vouched v e = v .so e
 pub ruleset chosen = (vouched, tested, not-false, needs)
 
 module _ (s : Settings) (f : List ℕ) where
-  all-cells : {k : Collision} → s .collision ≡ k → passed (collidedBy k (tauOf (s .nu))) (s .fx) (s .fy) (s .nx * s .ny) f ≡ collidedBuffer s f
+  all-cells : {k : Collision} → s .collision ≡ k → passed (collidedBy k (tauOf (s .nu))) (s .fx) (s .fy) (s .floor) (s .nx * s .ny) f ≡ collidedBuffer s f
   unfolding passed collidedBuffer bufferOf collided
   all-cells kind =
       let n = s .nx * s .ny in
       rw (← kind) (λ i. listed (9 * n) (λ k. collidedEntry s f (sym (mod-add-div' (k % n) (s .nx)) i) (k / n)))
 
   module _ {e : List ℕ} {tau : Float} (time : tau ≡ tauOf (s .nu)) where
-    pub bgk-all : {rates : BgkRates} → s .collision ≡ Bgk → rates ≡ bgkRates tau → e ≡ passed (bgk rates) (s .fx) (s .fy) (s .nx * s .ny) f → e ≡ collidedBuffer s f
+    pub bgk-all : {rates : BgkRates} → s .collision ≡ Bgk → rates ≡ bgkRates tau → e ≡ passed (bgk rates) (s .fx) (s .fy) (s .floor) (s .nx * s .ny) f → e ≡ collidedBuffer s f
     unfolding collidedBy
     bgk-all kind so w = w ∙ rw (so, time) (all-cells kind)
 
-    pub trt-all : {rate : Float} {rates : TrtRates} → s .collision ≡ Trt rate → rates ≡ trtRates tau rate → e ≡ passed (trt rates) (s .fx) (s .fy) (s .nx * s .ny) f → e ≡ collidedBuffer s f
+    pub trt-all : {rate : Float} {rates : TrtRates} → s .collision ≡ Trt rate → rates ≡ trtRates tau rate → e ≡ passed (trt rates) (s .fx) (s .fy) (s .floor) (s .nx * s .ny) f → e ≡ collidedBuffer s f
     unfolding collidedBy
     trt-all kind so w = w ∙ rw (so, time) (all-cells kind)
 
-    pub mrt-all : {rates : MrtRates} → s .collision ≡ Mrt → rates ≡ mrtRates tau → e ≡ passed (mrt rates) (s .fx) (s .fy) (s .nx * s .ny) f → e ≡ collidedBuffer s f
+    pub mrt-all : {rates : MrtRates} → s .collision ≡ Mrt → rates ≡ mrtRates tau → e ≡ passed (mrt rates) (s .fx) (s .fy) (s .floor) (s .nx * s .ny) f → e ≡ collidedBuffer s f
     unfolding collidedBy
     mrt-all kind so w = w ∙ rw (so, time) (all-cells kind)

@@ -7,7 +7,7 @@ use Prim.Native.Nat.{ℕ, zero, suc, _*_, _≤_, _<_}
 use native.Mathlib.Omega.{arith}
 use lib.Ieee.{Float, lt}
 use Rattle.number.specs.Number.{notFinite}
-use Rattle.cell.specs.Cell.{densityOf, readMoments, tiny}
+use Rattle.cell.specs.Cell.{densityOf, readMoments}
 use Rattle.settings.specs.declared.Settings.{Settings}
 use Rattle.settings.proofs.Laws.{or-left, or-right}
 use Rattle.readings.specs.Readings.{densityAt, velocityAt}
@@ -30,11 +30,11 @@ FiniteCells s f = (c : ℕ) → c < s .nx * s .ny → FiniteCell s f c
 -- ---- a cell is finite exactly where it is not bad
 
 -- the density beside a velocity is the density
-same-density : (f : List Float) (fx fy : Float) → readMoments f fx fy .density ≡ densityOf f
+same-density : (f : List Float) (fx fy floor : Float) → readMoments f fx fy floor .density ≡ densityOf f
 unfolding readMoments
-same-density f fx fy = go (lt (densityOf f) tiny) refl
+same-density f fx fy floor = go (lt (densityOf f) floor) refl
   where
-    go : (below : Bool) → lt (densityOf f) tiny ≡ below → readMoments f fx fy .density ≡ densityOf f
+    go : (below : Bool) → lt (densityOf f) floor ≡ below → readMoments f fx fy floor .density ≡ densityOf f
     go true e = rw e
     go false e = rw e
 
@@ -45,14 +45,14 @@ module _ (s : Settings) (f : List ℕ) (c : ℕ) where
       let m = velocityAt s f c in
       let two = or-left (notFinite (m .density) || notFinite (m .ux)) (notFinite (m .uy)) e in
       record {
-        density = ap notFinite (sym (same-density _ _ _)) ∙ or-left (notFinite (m .density)) (notFinite (m .ux)) two;
+        density = ap notFinite (sym (same-density _ _ _ _)) ∙ or-left (notFinite (m .density)) (notFinite (m .ux)) two;
         ux = or-right (notFinite (m .density)) (notFinite (m .ux)) two;
         uy = or-right (notFinite (m .density) || notFinite (m .ux)) (notFinite (m .uy)) e;
       }
 
   not-bad : FiniteCell s f c → badCell s f c ≡ false
   unfolding badCell
-  not-bad h = rw (same-density _ _ _, h .density, h .ux, h .uy)
+  not-bad h = rw (same-density _ _ _ _, h .density, h .ux, h .uy)
 
 none-of-all : (g : ℕ → Bool) (n : ℕ) → ((c : ℕ) → c < n → g c ≡ false) → someOf g n ≡ false
 unfolding someOf

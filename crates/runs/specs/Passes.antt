@@ -49,12 +49,12 @@ abbrev pub clearAfter : Settings → List ℕ → Bool
 clearAfter s f = clearOf (carriedJoin false s (collidedBuffer s f))
 
 -- entry i of cell c after one of the three collisions
-abbrev pub entryBy : (List Float → List Float → List Float → List Float) → Float → Float → List ℕ → ℕ → ℕ → ℕ → ℕ
-entryBy collide fx fy f n c i = patternOf (at (cellBy collide (cellOf f n c) fx fy) i)
+abbrev pub entryBy : (List Float → List Float → List Float → List Float) → Float → Float → Float → List ℕ → ℕ → ℕ → ℕ → ℕ
+entryBy collide fx fy floor f n c i = patternOf (at (cellBy collide (cellOf f n c) fx fy floor) i)
 
 -- what a pass over the n cells of f writes: every cell so collided
-unfoldable pub passed : (List Float → List Float → List Float → List Float) → Float → Float → ℕ → List ℕ → List ℕ
-passed collide fx fy n f = listed (9 * n) (λ k. entryBy collide fx fy f n (k % n) (k / n))
+unfoldable pub passed : (List Float → List Float → List Float → List Float) → Float → Float → Float → ℕ → List ℕ → List ℕ
+passed collide fx fy floor n f = listed (9 * n) (λ k. entryBy collide fx fy floor f n (k % n) (k / n))
 
 -- the two maxima once a component is taken in, which was `last` in the last snapshot
 abbrev pub takenIn : Maxima → Float → Float → Maxima

@@ -15,7 +15,7 @@ use Rattle.streaming.specs.Streaming.{nextBuffer}
 
 -- COLLISION: each cell by itself, c = x + y·nx
 abbrev pub collidedEntry : Settings → List ℕ → ℕ → ℕ → ℕ
-collidedEntry s f c i = patternOf (at (collided (s .collision) (cellOf f (s .nx * s .ny) c) (tauOf (s .nu)) (s .fx) (s .fy)) i)
+collidedEntry s f c i = patternOf (at (collided (s .collision) (cellOf f (s .nx * s .ny) c) (tauOf (s .nu)) (s .fx) (s .fy) (s .floor)) i)
 
 unfoldable pub collidedBuffer : Settings → List ℕ → List ℕ
 collidedBuffer s f = bufferOf (s .nx) (s .ny) (λ x y i. collidedEntry s f (x + y * s .nx) i)

@@ -13,85 +13,117 @@ ghost use Rattle.cell.specs.Cell.{forcedBy, bgk, trt, mrt};
 ghost use Rattle.runs.specs.Passes.{Paired, Ready, Vouched, passed};
 ghost use Rattle.runs.specs.Steps.{collidedBuffer};
 
-fn bgk_pass(n: usize, fx: f64, fy: f64, rates: BgkRates, f: &[u64], post: &mut [u64])
+fn bgk_pass(n: usize, fx: f64, fy: f64, floor: f64, rates: BgkRates, f: &[u64], post: &mut [u64])
     requires { ⌜ Paired n (now f) (now post) × (forcedBy fx fy ≡ false) × AllFinite (now f) ⌝ }
-    ensures { λ _. ⌜ now (post .exit) ≡ passed (bgk rates) fx fy n (now (f .entry)) ⌝ }
+    ensures { λ _. ⌜ now (post .exit) ≡ passed (bgk rates) fx fy floor n (now (f .entry)) ⌝ }
 {
     let mut c = 0;
     while c < n {
-        let v = cell::bgk_cell(grid::gather_finite(f, n, c), fx, fy, rates);
+        let v = cell::bgk_cell(grid::gather_finite(f, n, c), fx, fy, floor, rates);
         grid::put_back(post, n, c, v);
         c += 1;
     }
 }
 
-fn bgk_pass_forced(n: usize, fx: f64, fy: f64, rates: BgkRates, f: &[u64], post: &mut [u64])
+fn bgk_pass_forced(
+    n: usize,
+    fx: f64,
+    fy: f64,
+    floor: f64,
+    rates: BgkRates,
+    f: &[u64],
+    post: &mut [u64],
+)
     requires { ⌜ Paired n (now f) (now post) × (forcedBy fx fy ≡ true) × AllFinite (now f) ⌝ }
-    ensures { λ _. ⌜ now (post .exit) ≡ passed (bgk rates) fx fy n (now (f .entry)) ⌝ }
+    ensures { λ _. ⌜ now (post .exit) ≡ passed (bgk rates) fx fy floor n (now (f .entry)) ⌝ }
 {
     let mut c = 0;
     while c < n {
-        let v = cell::bgk_cell_forced(grid::gather_finite(f, n, c), fx, fy, rates);
+        let v = cell::bgk_cell_forced(grid::gather_finite(f, n, c), fx, fy, floor, rates);
         grid::put_back(post, n, c, v);
         c += 1;
     }
 }
 
-fn trt_pass(n: usize, fx: f64, fy: f64, rates: TrtRates, f: &[u64], post: &mut [u64])
+fn trt_pass(n: usize, fx: f64, fy: f64, floor: f64, rates: TrtRates, f: &[u64], post: &mut [u64])
     requires { ⌜ Paired n (now f) (now post) × (forcedBy fx fy ≡ false) × AllFinite (now f) ⌝ }
-    ensures { λ _. ⌜ now (post .exit) ≡ passed (trt rates) fx fy n (now (f .entry)) ⌝ }
+    ensures { λ _. ⌜ now (post .exit) ≡ passed (trt rates) fx fy floor n (now (f .entry)) ⌝ }
 {
     let mut c = 0;
     while c < n {
-        let v = cell::trt_cell(grid::gather_finite(f, n, c), fx, fy, rates);
+        let v = cell::trt_cell(grid::gather_finite(f, n, c), fx, fy, floor, rates);
         grid::put_back(post, n, c, v);
         c += 1;
     }
 }
 
-fn trt_pass_forced(n: usize, fx: f64, fy: f64, rates: TrtRates, f: &[u64], post: &mut [u64])
+fn trt_pass_forced(
+    n: usize,
+    fx: f64,
+    fy: f64,
+    floor: f64,
+    rates: TrtRates,
+    f: &[u64],
+    post: &mut [u64],
+)
     requires { ⌜ Paired n (now f) (now post) × (forcedBy fx fy ≡ true) × AllFinite (now f) ⌝ }
-    ensures { λ _. ⌜ now (post .exit) ≡ passed (trt rates) fx fy n (now (f .entry)) ⌝ }
+    ensures { λ _. ⌜ now (post .exit) ≡ passed (trt rates) fx fy floor n (now (f .entry)) ⌝ }
 {
     let mut c = 0;
     while c < n {
-        let v = cell::trt_cell_forced(grid::gather_finite(f, n, c), fx, fy, rates);
+        let v = cell::trt_cell_forced(grid::gather_finite(f, n, c), fx, fy, floor, rates);
         grid::put_back(post, n, c, v);
         c += 1;
     }
 }
 
-fn bgk_pass_any(n: usize, fx: f64, fy: f64, rates: BgkRates, f: &[u64], post: &mut [u64])
+fn bgk_pass_any(
+    n: usize,
+    fx: f64,
+    fy: f64,
+    floor: f64,
+    rates: BgkRates,
+    f: &[u64],
+    post: &mut [u64],
+)
     requires { ⌜ Paired n (now f) (now post) ⌝ }
-    ensures { λ _. ⌜ now (post .exit) ≡ passed (bgk rates) fx fy n (now (f .entry)) ⌝ }
+    ensures { λ _. ⌜ now (post .exit) ≡ passed (bgk rates) fx fy floor n (now (f .entry)) ⌝ }
 {
     let mut c = 0;
     while c < n {
-        let v = cell::bgk_cell_any(grid::gather(f, n, c), fx, fy, rates);
+        let v = cell::bgk_cell_any(grid::gather(f, n, c), fx, fy, floor, rates);
         grid::put_back(post, n, c, v);
         c += 1;
     }
 }
 
-fn trt_pass_any(n: usize, fx: f64, fy: f64, rates: TrtRates, f: &[u64], post: &mut [u64])
+fn trt_pass_any(
+    n: usize,
+    fx: f64,
+    fy: f64,
+    floor: f64,
+    rates: TrtRates,
+    f: &[u64],
+    post: &mut [u64],
+)
     requires { ⌜ Paired n (now f) (now post) ⌝ }
-    ensures { λ _. ⌜ now (post .exit) ≡ passed (trt rates) fx fy n (now (f .entry)) ⌝ }
+    ensures { λ _. ⌜ now (post .exit) ≡ passed (trt rates) fx fy floor n (now (f .entry)) ⌝ }
 {
     let mut c = 0;
     while c < n {
-        let v = cell::trt_cell_any(grid::gather(f, n, c), fx, fy, rates);
+        let v = cell::trt_cell_any(grid::gather(f, n, c), fx, fy, floor, rates);
         grid::put_back(post, n, c, v);
         c += 1;
     }
 }
 
-fn mrt_pass(n: usize, fx: f64, fy: f64, rates: MrtRates, f: &[u64], post: &mut [u64])
+fn mrt_pass(n: usize, fx: f64, fy: f64, floor: f64, rates: MrtRates, f: &[u64], post: &mut [u64])
     requires { ⌜ Paired n (now f) (now post) ⌝ }
-    ensures { λ _. ⌜ now (post .exit) ≡ passed (mrt rates) fx fy n (now (f .entry)) ⌝ }
+    ensures { λ _. ⌜ now (post .exit) ≡ passed (mrt rates) fx fy floor n (now (f .entry)) ⌝ }
 {
     let mut c = 0;
     while c < n {
-        let v = cell::mrt_cell(grid::gather(f, n, c), fx, fy, rates);
+        let v = cell::mrt_cell(grid::gather(f, n, c), fx, fy, floor, rates);
         grid::put_back(post, n, c, v);
         c += 1;
     }
@@ -104,11 +136,11 @@ fn collide_bgk(s: Settings, finite: bool, f: &[u64], post: &mut [u64])
     let n = s.nx * s.ny;
     let rates = cell::bgk_rates(settings::tau(s.nu));
     if !finite {
-        bgk_pass_any(n, s.fx, s.fy, rates, f, post);
+        bgk_pass_any(n, s.fx, s.fy, s.floor, rates, f, post);
     } else if cell::forced(s.fx, s.fy) {
-        bgk_pass_forced(n, s.fx, s.fy, rates, f, post);
+        bgk_pass_forced(n, s.fx, s.fy, s.floor, rates, f, post);
     } else {
-        bgk_pass(n, s.fx, s.fy, rates, f, post);
+        bgk_pass(n, s.fx, s.fy, s.floor, rates, f, post);
     }
 }
 
@@ -119,11 +151,11 @@ fn collide_trt(s: Settings, rate: f64, finite: bool, f: &[u64], post: &mut [u64]
     let n = s.nx * s.ny;
     let rates = cell::trt_rates(settings::tau(s.nu), rate);
     if !finite {
-        trt_pass_any(n, s.fx, s.fy, rates, f, post);
+        trt_pass_any(n, s.fx, s.fy, s.floor, rates, f, post);
     } else if cell::forced(s.fx, s.fy) {
-        trt_pass_forced(n, s.fx, s.fy, rates, f, post);
+        trt_pass_forced(n, s.fx, s.fy, s.floor, rates, f, post);
     } else {
-        trt_pass(n, s.fx, s.fy, rates, f, post);
+        trt_pass(n, s.fx, s.fy, s.floor, rates, f, post);
     }
 }
 
@@ -132,7 +164,8 @@ fn collide_mrt(s: Settings, f: &[u64], post: &mut [u64])
     ensures { λ _. ⌜ now (post .exit) ≡ collidedBuffer s (now (f .entry)) ⌝ }
 {
     let n = s.nx * s.ny;
-    mrt_pass(n, s.fx, s.fy, cell::mrt_rates(settings::tau(s.nu)), f, post);
+    let rates = cell::mrt_rates(settings::tau(s.nu));
+    mrt_pass(n, s.fx, s.fy, s.floor, rates, f, post);
 }
 
 // Collides every cell of f into post; `finite` where every entry of f is known to be finite.

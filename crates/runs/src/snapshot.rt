@@ -21,7 +21,7 @@ fn bad_cell(s: Settings, f: &[u64], c: usize) -> bool
     requires { ⌜ Holds (now f) (s .nx * s .ny) c ⌝ }
     ensures { λ r. ⌜ r ≡ badCell s (now (f .entry)) c ⌝ }
 {
-    let m = readings::read_velocity(f, s.nx * s.ny, c, s.fx, s.fy);
+    let m = readings::read_velocity(f, s.nx * s.ny, c, s.fx, s.fy, s.floor);
     number::not_finite(m.density) | number::not_finite(m.ux) | number::not_finite(m.uy)
 }
 
@@ -81,7 +81,7 @@ pub fn take_snapshot(s: Settings, f: &[u64], u: &mut [u64]) -> f64
     let mut max = Maxima { du: 0.0, umax: 0.0 };
     let mut c = 0;
     while c < n {
-        let m = readings::read_velocity(f, n, c, s.fx, s.fy);
+        let m = readings::read_velocity(f, n, c, s.fx, s.fy, s.floor);
         max = take_cell(max, m, c, u);
         c += 1;
     }

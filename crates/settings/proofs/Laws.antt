@@ -10,8 +10,8 @@ use borrow.Author.Tests.{ltb-false, leb-false, eqb-true, not-false}
 use Rattle.grid.specs.Grid.{Grid, mostSide, mostCells}
 use Rattle.settings.specs.declared.Head.{Head}
 use Rattle.settings.specs.declared.Settings.{Settings}
-use Rattle.settings.specs.Tests.{sideBad, sidesBad, lengthBad, bytesBad, ratesBad, forceBad, facesBad, stepsBad, mostSteps, placeBad, directionBad, outside, falls, driven, lossy, countBad, sizeBad, tallyCountBad, sumsBad}
-use Rattle.settings.specs.Refusals.{Test, row, first, Call, tests, refusal, sides, lengths, rates, force, faces, kinds, losses, tolerance, steps, place, direction, places, ascent, bytes, short, version, cut, stored, counted, lent, tallyCounted, sums, sized}
+use Rattle.settings.specs.Tests.{sideBad, sidesBad, lengthBad, bytesBad, ratesBad, floorBad, forceBad, facesBad, stepsBad, mostSteps, placeBad, directionBad, outside, falls, driven, lossy, countBad, sizeBad, tallyCountBad, sumsBad}
+use Rattle.settings.specs.Refusals.{Test, row, first, Call, tests, refusal, sides, lengths, rates, floor, force, faces, kinds, losses, tolerance, steps, place, direction, places, ascent, bytes, short, version, cut, stored, counted, lent, tallyCounted, sums, sized}
 
 -- ---- what a test tells
 
@@ -114,6 +114,7 @@ abbrev pub Tells : Test → Type 0
 Tells (sides s) = Grid (s .nx) (s .ny)
 Tells (lengths s per len) = Sized s per len
 Tells (rates s) = ratesBad s ≡ false
+Tells (floor s) = floorBad s ≡ false
 Tells (force s) = forceBad s ≡ false
 Tells (faces s) = facesBad s ≡ false
 Tells (place s x y) = Inside s x y
@@ -139,6 +140,7 @@ tells : (t : Test) → row t .bad ≡ false → Tells t
 tells (sides s) e = sides-ok (s .nx) (s .ny) e
 tells (lengths s per len) e = record { size = length-ok (s .nx) (s .ny) per len e }
 tells (rates s) e = e
+tells (floor s) e = e
 tells (force s) e = e
 tells (faces s) e = e
 tells (place s x y) e = place-ok s x y e
@@ -172,6 +174,7 @@ positive : (t : Test) → T (ltb 0 (row t .number))
 positive (sides s) = tt
 positive (lengths s per len) = tt
 positive (rates s) = tt
+positive (floor s) = tt
 positive (force s) = tt
 positive (faces s) = tt
 positive (place s x y) = tt

@@ -4,7 +4,7 @@ use mathlib.Core.List.{List, [], _∷_}
 use Prim.Native.Nat.{ℕ}
 use lib.Dec.{eqb}
 use lib.Ieee.{Float}
-use Rattle.settings.specs.Tests.{sidesBad, lengthBad, bytesBad, ratesBad, forceBad, facesBad, toleranceBad, stepsBad, placeBad, directionBad, outside, falls, driven, lossy, shortBad, versionBad, cutBad, countBad, sizeBad, tallyCountBad, sumsBad}
+use Rattle.settings.specs.Tests.{sidesBad, lengthBad, bytesBad, ratesBad, floorBad, forceBad, facesBad, toleranceBad, stepsBad, placeBad, directionBad, outside, falls, driven, lossy, shortBad, versionBad, cutBad, countBad, sizeBad, tallyCountBad, sumsBad}
 use Rattle.settings.specs.declared.Head.{Head}
 use Rattle.settings.specs.declared.Obstacle.{Obstacle}
 use Rattle.settings.specs.declared.Settings.{Settings}
@@ -14,7 +14,7 @@ use Rattle.settings.specs.declared.Settings.{Settings}
 pub data Test : Type 0 where
   sides : (s : Settings) → Test
   lengths : (s : Settings) (per len : ℕ) → Test
-  rates force faces kinds losses : (s : Settings) → Test
+  rates floor force faces kinds losses : (s : Settings) → Test
   tolerance : (t : Float) → Test
   steps : (n : ℕ) → Test
   place : (s : Settings) (x y : ℕ) → Test
@@ -42,6 +42,7 @@ abbrev pub row : Test → Row
 row (sides s) = 1 when sidesBad (s .nx) (s .ny)
 row (lengths s per len) = 2 when lengthBad (s .nx) (s .ny) per len
 row (rates s) = 3 when ratesBad s
+row (floor s) = 3 when floorBad s
 row (force s) = 4 when forceBad s
 row (faces s) = 5 when facesBad s
 row (place s x y) = 6 when placeBad (s .nx) (s .ny) x y
@@ -117,19 +118,19 @@ pub data Call : Type 0 where
 abbrev pub tests : Call → List Test
 tests (initialize s table f) = sides s ∷ lengths s 9 f ∷ lengths s 3 table ∷ []
 tests (density s f x y) = sides s ∷ lengths s 9 f ∷ place s x y ∷ []
-tests (velocity s f x y) = sides s ∷ lengths s 9 f ∷ force s ∷ place s x y ∷ []
-tests (velocityField s f u) = sides s ∷ lengths s 9 f ∷ lengths s 2 u ∷ force s ∷ []
+tests (velocity s f x y) = sides s ∷ lengths s 9 f ∷ floor s ∷ force s ∷ place s x y ∷ []
+tests (velocityField s f u) = sides s ∷ lengths s 9 f ∷ lengths s 2 u ∷ floor s ∷ force s ∷ []
 tests (totalMass s f) = sides s ∷ lengths s 9 f ∷ []
-tests (kineticEnergy s f) = sides s ∷ lengths s 9 f ∷ force s ∷ []
+tests (kineticEnergy s f) = sides s ∷ lengths s 9 f ∷ floor s ∷ force s ∷ []
 tests (plane s f i) = sides s ∷ lengths s 9 f ∷ direction i ∷ []
 tests (streamWithFaces s post f) = sides s ∷ lengths s 9 f ∷ lengths s 9 post ∷ faces s ∷ []
 tests (lossless s) = sides s ∷ faces s ∷ kinds s ∷ []
 tests (reverse s f post) = sides s ∷ lengths s 9 f ∷ lengths s 9 post ∷ faces s ∷ kinds s ∷ losses s ∷ []
-tests (step s f post) = sides s ∷ lengths s 9 f ∷ lengths s 9 post ∷ rates s ∷ force s ∷ faces s ∷ []
+tests (step s f post) = sides s ∷ lengths s 9 f ∷ lengths s 9 post ∷ rates s ∷ floor s ∷ force s ∷ faces s ∷ []
 tests (run s n f post) =
-    sides s ∷ lengths s 9 f ∷ lengths s 9 post ∷ rates s ∷ force s ∷ faces s ∷ steps n ∷ []
+    sides s ∷ lengths s 9 f ∷ lengths s 9 post ∷ rates s ∷ floor s ∷ force s ∷ faces s ∷ steps n ∷ []
 tests (runToSteadyState s t n f post u) =
-    sides s ∷ lengths s 9 f ∷ lengths s 9 post ∷ lengths s 2 u ∷ rates s ∷ force s ∷ faces s ∷ tolerance t
+    sides s ∷ lengths s 9 f ∷ lengths s 9 post ∷ lengths s 2 u ∷ rates s ∷ floor s ∷ force s ∷ faces s ∷ tolerance t
     ∷ steps n ∷ []
 tests (setNoSlipBc s list f) = sides s ∷ lengths s 9 f ∷ places s list ∷ ascent s list ∷ []
 tests (writeCheckpoint s f n) = sides s ∷ lengths s 9 f ∷ bytes s n ∷ []

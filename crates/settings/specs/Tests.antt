@@ -59,6 +59,14 @@ rateBad (Trt rate) = notFinite rate || lt rate c0 || lt c2 rate
 unfoldable pub ratesBad : Settings → Bool
 ratesBad s = tauBad (tauOf (s .nu)) || rateBad (s .collision)
 
+-- not finite, or not above 0
+unfoldable pub notPositive : Float → Bool
+notPositive x = notFinite x || not (lt c0 x)
+
+-- or the floor is not positive: a test of its own, since readings make it and test no rate
+abbrev pub floorBad : Settings → Bool
+floorBad s = notPositive (s .floor)
+
 -- ---- 4: a force component is not finite
 
 unfoldable pub forceBad : Settings → Bool
@@ -81,7 +89,7 @@ faceBad a d (MovingWall u0 u1) = notFinite u0 || notFinite u1
 faceBad a d Symmetry = false
 faceBad a d (Velocity u0 u1) =
     let un = along u0 u1 (normal a d) in notFinite u0 || notFinite u1 || eq (c1 ⊖ un) c0
-faceBad a d (Pressure density) = notFinite density || not (lt c0 density)
+faceBad a d (Pressure density) = notPositive density
 
 unfoldable pub facesBad : Settings → Bool
 facesBad s =

@@ -7,7 +7,7 @@ ghost use mathlib.Core.Bool.{cond};
 ghost use mathlib.Core.List.{[], _∷_};
 ghost use Prim.Native.Nat.{_≤_};
 ghost use Rattle.settings.specs.Tests as Tests;
-ghost use Rattle.settings.specs.Tests.{sideBad, sidesBad, lengthBad, bytesBad, tauOf, tauBad, rateBad, faceBad, isPeriodic, isSymmetry, countBad, tallyCountBad, sumsBad};
+ghost use Rattle.settings.specs.Tests.{sideBad, sidesBad, lengthBad, bytesBad, tauOf, tauBad, rateBad, notPositive, faceBad, isPeriodic, isSymmetry, countBad, tallyCountBad, sumsBad};
 ghost use Rattle.settings.specs.Refusals as Refusals;
 ghost use Rattle.settings.specs.Refusals.{first, refusal};
 
@@ -32,6 +32,7 @@ pub struct Settings {
     pub x_max: Face,
     pub y_min: Face,
     pub y_max: Face,
+    pub floor: f64,
 }
 
 // A cell that an obstacle fills. C reads it as two words.
@@ -118,6 +119,13 @@ fn rate_bad(collision: Collision) -> bool
     }
 }
 
+// Whether a number is not finite, or not above 0.
+fn not_positive(x: f64) -> bool
+    ensures { λ r. ⌜ r ≡ notPositive x ⌝ }
+{
+    number::not_finite(x) | !(0.0 < x)
+}
+
 // Whether a face's own numbers are bad.
 fn face_bad(axis: Axis, side: Side, face: Face) -> bool
     ensures { λ r. ⌜ r ≡ faceBad axis side face ⌝ }
@@ -131,7 +139,7 @@ fn face_bad(axis: Axis, side: Side, face: Face) -> bool
             let un = lattice::along_normal(axis, side, u0, u1);
             number::not_finite(u0) | number::not_finite(u1) | (1.0 - un == 0.0)
         }
-        Face::Pressure(density) => number::not_finite(density) | !(0.0 < density),
+        Face::Pressure(density) => not_positive(density),
     }
 }
 
@@ -241,6 +249,12 @@ fn rates(s: Settings, later: u32) -> u32
     number_if(tau_bad(tau(s.nu)) | rate_bad(collision), 3, later)
 }
 
+fn floor(s: Settings, later: u32) -> u32
+    ensures { λ r. ⌜ r ≡ first (Refusals.floor s ∷ []) later ⌝ }
+{
+    number_if(not_positive(s.floor), 3, later)
+}
+
 fn force(s: Settings, later: u32) -> u32
     ensures { λ r. ⌜ r ≡ first (Refusals.force s ∷ []) later ⌝ }
 {
@@ -345,11 +359,18 @@ fn populations(s: Settings, f: usize, later: u32) -> u32
     sides(s, lengths(s, 9, f, later))
 }
 
+// What every operation that works out a velocity tests of the settings.
+fn moments(s: Settings, later: u32) -> u32
+    ensures { λ r. ⌜ r ≡ first (Refusals.floor s ∷ Refusals.force s ∷ []) later ⌝ }
+{
+    floor(s, force(s, later))
+}
+
 // What every operation that steps tests of the settings.
 fn stepping(s: Settings, later: u32) -> u32
-    ensures { λ r. ⌜ r ≡ first (Refusals.rates s ∷ Refusals.force s ∷ Refusals.faces s ∷ []) later ⌝ }
+    ensures { λ r. ⌜ r ≡ first (Refusals.rates s ∷ Refusals.floor s ∷ Refusals.force s ∷ Refusals.faces s ∷ []) later ⌝ }
 {
-    rates(s, force(s, faces(s, later)))
+    rates(s, moments(s, faces(s, later)))
 }
 
 pub fn initialize_refusal(s: Settings, table: usize, f: usize) -> u32
@@ -367,13 +388,13 @@ pub fn density_refusal(s: Settings, f: usize, x: usize, y: usize) -> u32
 pub fn velocity_refusal(s: Settings, f: usize, x: usize, y: usize) -> u32
     ensures { λ r. ⌜ r ≡ refusal (Refusals.velocity s f x y) ⌝ }
 {
-    populations(s, f, force(s, place(s, x, y, 0)))
+    populations(s, f, moments(s, place(s, x, y, 0)))
 }
 
 pub fn velocity_field_refusal(s: Settings, f: usize, u: usize) -> u32
     ensures { λ r. ⌜ r ≡ refusal (Refusals.velocityField s f u) ⌝ }
 {
-    populations(s, f, lengths(s, 2, u, force(s, 0)))
+    populations(s, f, lengths(s, 2, u, moments(s, 0)))
 }
 
 pub fn total_mass_refusal(s: Settings, f: usize) -> u32
@@ -385,7 +406,7 @@ pub fn total_mass_refusal(s: Settings, f: usize) -> u32
 pub fn kinetic_energy_refusal(s: Settings, f: usize) -> u32
     ensures { λ r. ⌜ r ≡ refusal (Refusals.kineticEnergy s f) ⌝ }
 {
-    populations(s, f, force(s, 0))
+    populations(s, f, moments(s, 0))
 }
 
 pub fn plane_refusal(s: Settings, f: usize, i: usize) -> u32

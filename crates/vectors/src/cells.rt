@@ -3,6 +3,7 @@
 use crate::made;
 use crate::show;
 use crate::studies;
+use crate::studies::FLOOR;
 
 fn same(a: [f64; 9], b: [f64; 9]) -> bool {
     let mut same = true;
@@ -22,26 +23,26 @@ fn show_both(a: [f64; 9], b: [f64; 9]) {
 
 fn show_bgk(f: [f64; 9], tau: f64, fx: f64, fy: f64) {
     let rates = cell::bgk_rates(tau);
-    let any = cell::bgk_cell_any(f, fx, fy, rates);
+    let any = cell::bgk_cell_any(f, fx, fy, FLOOR, rates);
     if cell::forced(fx, fy) {
-        show_both(any, cell::bgk_cell_forced(f, fx, fy, rates));
+        show_both(any, cell::bgk_cell_forced(f, fx, fy, FLOOR, rates));
     } else {
-        show_both(any, cell::bgk_cell(f, fx, fy, rates));
+        show_both(any, cell::bgk_cell(f, fx, fy, FLOOR, rates));
     }
 }
 
 fn show_trt(f: [f64; 9], tau: f64, rate: f64, fx: f64, fy: f64) {
     let rates = cell::trt_rates(tau, rate);
-    let any = cell::trt_cell_any(f, fx, fy, rates);
+    let any = cell::trt_cell_any(f, fx, fy, FLOOR, rates);
     if cell::forced(fx, fy) {
-        show_both(any, cell::trt_cell_forced(f, fx, fy, rates));
+        show_both(any, cell::trt_cell_forced(f, fx, fy, FLOOR, rates));
     } else {
-        show_both(any, cell::trt_cell(f, fx, fy, rates));
+        show_both(any, cell::trt_cell(f, fx, fy, FLOOR, rates));
     }
 }
 
 fn show_mrt(f: [f64; 9], tau: f64, fx: f64, fy: f64) {
-    show::nine(cell::mrt_cell(f, fx, fy, cell::mrt_rates(tau)));
+    show::nine(cell::mrt_cell(f, fx, fy, FLOOR, cell::mrt_rates(tau)));
 }
 
 // Case k, from the number x on; answers the number after it.

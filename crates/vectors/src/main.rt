@@ -1,5 +1,6 @@
 // Asks the port what the Rust was asked, and writes the answers as patterns in hexadecimal: they must be those that the Rust wrote.
 mod cells;
+mod floors;
 mod grids;
 mod made;
 mod replays;
@@ -57,4 +58,5 @@ fn main() {
     let x = all_streams(x);
     let x = all_runs(x);
     all_steadies(x);
+    floors::all();
 }

@@ -4,6 +4,9 @@ use cell::Collision;
 use settings::Face;
 use settings::Settings;
 
+// The Rust's floor, of every study but those of floors.
+pub const FLOOR: f64 = 1e-12;
+
 // A collision of the kind 0 to 2.
 pub fn collision(kind: u64, rate: f64) -> Collision {
     if kind == 0 {
@@ -33,6 +36,7 @@ pub fn periodic(nx: usize, ny: usize, nu: f64, fx: f64, fy: f64, collision: Coll
         x_max: Face::Periodic,
         y_min: Face::Periodic,
         y_max: Face::Periodic,
+        floor: FLOOR,
     }
 }
 
@@ -78,6 +82,7 @@ pub fn bounded(s: Settings, k: u64, l: u64, shift: u64, x: u64) -> Settings {
         x_max,
         y_min,
         y_max,
+        floor: s.floor,
     }
 }
 

@@ -113,10 +113,10 @@ static uint32_t read_tally(const Call *c) {
  * the answer; what is tested. */
 const Operation INITIALIZE = {"brothwagon_initialize", initialize, {1, 0, 0, 1}, 0, 0, {1, 2, 0}};
 const Operation DENSITY = {"brothwagon_density", density, {1, 0, 0, 0}, 1, 0, {1, 2, 6, 0}};
-const Operation VELOCITY = {"brothwagon_velocity", velocity, {1, 0, 0, 0}, 2, 0, {1, 2, 4, 6, 0}};
-const Operation VELOCITY_FIELD = {"brothwagon_velocity_field", velocity_field, {1, 0, 1, 0}, 0, 0, {1, 2, 4, 0}};
+const Operation VELOCITY = {"brothwagon_velocity", velocity, {1, 0, 0, 0}, 2, 0, {1, 2, 3, 4, 6, 0}};
+const Operation VELOCITY_FIELD = {"brothwagon_velocity_field", velocity_field, {1, 0, 1, 0}, 0, 0, {1, 2, 3, 4, 0}};
 const Operation TOTAL_MASS = {"brothwagon_total_mass", total_mass, {1, 0, 0, 0}, 1, 0, {1, 2, 0}};
-const Operation KINETIC_ENERGY = {"brothwagon_kinetic_energy", kinetic_energy, {1, 0, 0, 0}, 1, 0, {1, 2, 4, 0}};
+const Operation KINETIC_ENERGY = {"brothwagon_kinetic_energy", kinetic_energy, {1, 0, 0, 0}, 1, 0, {1, 2, 3, 4, 0}};
 const Operation PLANE = {"brothwagon_plane", plane, {1, 0, 0, 0}, 0, 2, {1, 2, 6, 0}};
 const Operation STREAM_WITH_FACES = {"brothwagon_stream_with_faces", stream_with_faces, {1, 1, 0, 0}, 0, 0, {1, 2, 5, 0}};
 const Operation LOSSLESS = {"brothwagon_lossless", lossless, {0, 0, 0, 0}, 0, 4, {1, 5, 7, 0}};
@@ -149,6 +149,9 @@ int tests_for(const Operation *operation, uint32_t number) {
     }
     return 0;
 }
+
+/* What collides fills post. */
+int collides(const Operation *operation) { return tests_for(operation, 3) && operation->lent[POST]; }
 
 /* ---- a call and what it leaves */
 
@@ -201,6 +204,7 @@ Call begin(uint64_t nx, uint64_t ny, const char *format, ...) {
     call.settings.nx = nx;
     call.settings.ny = ny;
     call.settings.nu = 0.5;
+    call.settings.floor = 1e-12;
     for (int which = 0; which < BUFFERS; which++) {
         call.length[which] = a_cell[which] * nx * ny + besides[which];
         fill(given[which], which, MOST);

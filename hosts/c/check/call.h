@@ -45,6 +45,9 @@ extern const Operation *const ALL[OPERATIONS];
 /* Whether an operation tests a number. */
 int tests_for(const Operation *operation, uint32_t number);
 
+/* Whether an operation collides. If not, it tests of number 3 the floor alone, or nothing. */
+int collides(const Operation *operation);
+
 /* What the buffers hold before the next call, and what is expected of it: buffers and answer, as patterns. */
 extern double given[BUFFERS][MOST], wanted[BUFFERS][MOST];
 extern uint64_t wanted_answer[ANSWERS];
@@ -53,8 +56,8 @@ extern uint64_t wanted_answer[ANSWERS];
 uint64_t pattern(double number);
 
 /* Begins a case, named as by printf: buffers of canaries, expected to stay; an answer of zeros; and a call on a grid of this
- * size with buffers of the right lengths (a file's is a checkpoint's), Bgk with tau 2, no force, periodic faces, a file at an
- * odd address, an obstacle in every cell, the pattern 1 to write, and zeros. */
+ * size with buffers of the right lengths (a file's is a checkpoint's), Bgk with tau 2, no force, periodic faces, the floor
+ * 1e-12, a file at an odd address, an obstacle in every cell, the pattern 1 to write, and zeros. */
 Call begin(uint64_t nx, uint64_t ny, const char *format, ...);
 
 /* Makes this list that of the call. Behind it stand places outside whose x + y nx wraps to 0, so that a look at one shows. */
@@ -71,6 +74,7 @@ void check_refusals(void);
 void check_readings(void);
 void check_streaming(void);
 void check_steps(void);
+void check_floors(void);
 void check_obstacles(void);
 void check_checkpoints(void);
 void check_tallies(void);

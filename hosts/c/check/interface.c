@@ -5,7 +5,7 @@
 
 #include <assert.h>
 
-/* A face is three words, settings are nineteen, an obstacle is two. */
+/* A face is three words, settings are twenty, an obstacle is two. */
 #define WORD(type, field, place) static_assert(offsetof(type, field) == 8 * (place), #type "." #field " is another word")
 
 static_assert(sizeof(double) == 8, "an entry is one word");
@@ -16,7 +16,7 @@ WORD(brothwagon_face, kind, 0);
 WORD(brothwagon_face, a, 1);
 WORD(brothwagon_face, b, 2);
 
-static_assert(sizeof(brothwagon_settings) == 8 * 19, "settings have another size");
+static_assert(sizeof(brothwagon_settings) == 8 * 20, "settings have another size");
 WORD(brothwagon_settings, nx, 0);
 WORD(brothwagon_settings, ny, 1);
 WORD(brothwagon_settings, nu, 2);
@@ -28,6 +28,7 @@ WORD(brothwagon_settings, x_min, 7);
 WORD(brothwagon_settings, x_max, 10);
 WORD(brothwagon_settings, y_min, 13);
 WORD(brothwagon_settings, y_max, 16);
+WORD(brothwagon_settings, floor, 19);
 
 static_assert(sizeof(brothwagon_obstacle) == 8 * 2, "an obstacle has another size");
 WORD(brothwagon_obstacle, x, 0);
@@ -48,7 +49,8 @@ void fields_have_types(brothwagon_face *face, brothwagon_settings *settings, bro
 
 void fields_have_types(brothwagon_face *face, brothwagon_settings *settings, brothwagon_obstacle *obstacle) {
     uint64_t *const words[] = {&face->kind, &settings->nx, &settings->ny, &settings->collision, &obstacle->x, &obstacle->y};
-    double *const numbers[] = {&face->a, &face->b, &settings->nu, &settings->fx, &settings->fy, &settings->rate};
+    double *const numbers[] = {&face->a,      &face->b,        &settings->nu,   &settings->fx,
+                               &settings->fy, &settings->rate, &settings->floor};
     brothwagon_face *const faces[] = {&settings->x_min, &settings->x_max, &settings->y_min, &settings->y_max};
     (void)words, (void)numbers, (void)faces;
 }

@@ -9,7 +9,7 @@ static void say_tests(const Operation *operation) {
     const char *before = " ";
     printf("%s", operation->name);
     for (const uint32_t *test = operation->tests; *test != 0; test++) {
-        printf("%s%u", before, (unsigned)*test);
+        printf("%s%u%s", before, (unsigned)*test, *test == 3 && !collides(operation) ? " (the floor alone)" : "");
         before = ", ";
     }
     printf("\n");
@@ -27,6 +27,7 @@ int main(int words, char **word) {
     check_readings();
     check_streaming();
     check_steps();
+    check_floors();
     check_obstacles();
     check_checkpoints();
     check_tallies();

@@ -46,6 +46,13 @@ static int rates(Call *call, size_t k) {
     return k < COUNT(rows);
 }
 
+static int floors(Call *call, size_t k) {
+    if (k < COUNT(BAD_FLOORS)) {
+        call->settings.floor = BAD_FLOORS[k];
+    }
+    return k < COUNT(BAD_FLOORS);
+}
+
 static int force(Call *call, size_t k) {
     const double rows[][2] = {{NAN, 0.0}, {0.0, NAN}, {INFINITY, 0.0}, {0.0, -INFINITY}};
     if (k < COUNT(rows)) {
@@ -248,9 +255,9 @@ typedef struct {
 
 /* In the order in which the numbers are tested; and in that of a checkpoint file, and of a tally's. */
 static const Fault FAULTS[] = {
-    {1, "the sides", sides},           {2, "the lengths", lengths},    {3, "the rates", rates},  {4, "the force", force},
-    {5, "the faces", face_numbers},    {10, "the steps", steps},       {6, "the place", places}, {16, "the order", orders},
-    {7, "driven faces", driven_faces}, {8, "lossy faces", lossy_faces}};
+    {1, "the sides", sides},    {2, "the lengths", lengths},       {3, "the rates", rates},          {3, "the floor", floors},
+    {4, "the force", force},    {5, "the faces", face_numbers},    {10, "the steps", steps},         {6, "the place", places},
+    {16, "the order", orders},  {7, "driven faces", driven_faces}, {8, "lossy faces", lossy_faces}};
 
 static const Fault CHECKPOINT_FAULTS[] = {{12, "a file's first bytes", no_version},        {13, "its version", version},
                                           {14, "the bytes of its sides", sides_cut_short}, {1, "its sides", sides_of_file},
@@ -262,8 +269,13 @@ static const Fault TALLY_FAULTS[] = {{12, "a file's first bytes", no_version},
                                      {17, "the sums", sums},
                                      {2, "the lengths", lengths}};
 
+/* The rates are tested only where there is a collision. */
+static int tests_fault(const Operation *operation, const Fault *fault) {
+    return tests_for(operation, fault->number) && (fault->make != rates || collides(operation));
+}
+
 static int is_fault(const Operation *operation, const Fault *fault, size_t k) {
-    return tests_for(operation, fault->number) && (fault->number != 2 || operation->lent[k % BUFFERS]);
+    return tests_fault(operation, fault) && (fault->number != 2 || operation->lent[k % BUFFERS]);
 }
 
 /* The file that a call reads, if it reads one; and the tally that one writes. */
@@ -309,11 +321,11 @@ static void refused_first(const Operation *operation, const Fault *first, const 
     Call call = begin(3, 2, "faults of %s and of all that is tested later", first->of);
     lend_file(operation, &call);
     for (const Fault *fault = end; fault-- > first;) {
-        if (tests_for(operation, fault->number)) {
+        if (tests_fault(operation, fault)) {
             make_first(operation, fault, &call);
         }
     }
-    if (tests_for(operation, first->number)) {
+    if (tests_fault(operation, first)) {
         check(operation, &call, first->number);
     }
 }

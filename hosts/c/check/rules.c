@@ -43,7 +43,7 @@ static double momentum_of(const brothwagon_settings *s, const double *f, size_t 
 void velocity_of(const brothwagon_settings *s, const double *f, size_t c, double u[2]) {
     const double rho = density_of(s, f, c);
     for (int axis = 0; axis < 2; axis++) {
-        u[axis] = rho < 1e-12 ? 0.0 : momentum_of(s, f, c, axis) / rho;
+        u[axis] = rho < s->floor ? 0.0 : momentum_of(s, f, c, axis) / rho;
     }
 }
 
@@ -82,7 +82,7 @@ void tally_of(const brothwagon_settings *s, const double *f, uint64_t tally[TALL
 
 static void collide(const brothwagon_settings *s, const double *f, double *post, size_t c) {
     const double omega = 1.0 / (3.0 * s->nu + 0.5), rho = density_of(s, f, c);
-    const double inverse = fabs(rho) < 1e-12 ? 0.0 : 1.0 / rho;
+    const double inverse = fabs(rho) < s->floor ? 0.0 : 1.0 / rho;
     const double ux = momentum_of(s, f, c, 0) * inverse, uy = momentum_of(s, f, c, 1) * inverse;
     const int forced = s->fx != 0.0 || s->fy != 0.0;
     for (size_t i = 0; i < DIRECTIONS; i++) {

@@ -1,6 +1,7 @@
 /* The step, the run and the steady run. */
 #include "values.h"
 
+#include <float.h>
 #include <math.h>
 #include <string.h>
 
@@ -45,14 +46,18 @@ static void step_bounds(void) {
     }
 }
 
+/* The least floor and the usual one, one between the densities of the flow below, and the highest. */
+static const double FLOORS[] = {5e-324, 1e-12, 10.0, DBL_MAX};
+
 /* A flow between walls with a force along both axes, which the plain reading steps on. */
-static Call flow(const char *name, uint64_t steps) {
-    Call call = begin(3, 2, "%s, %u steps", name, (unsigned)steps);
+static Call flow(const char *name, uint64_t steps, double floor) {
+    Call call = begin(3, 2, "%s, %u steps, floor %g", name, (unsigned)steps, floor);
     hold_numbers(F, 54);
     set_faces(&call, P, P, N, BROTHWAGON_MOVING_WALL);
     call.settings.nu = 0.1;
     call.settings.fx = 0.01;
     call.settings.fy = -0.02;
+    call.settings.floor = floor;
     call.steps = steps;
     for (uint64_t k = 0; k < steps; k++) {
         step(&call.settings, wanted[F], wanted[POST]);
@@ -60,11 +65,11 @@ static Call flow(const char *name, uint64_t steps) {
     return call;
 }
 
-static void step_and_run(void) {
-    Call call = flow("a flow", 1);
+static void step_and_run(double floor) {
+    Call call = flow("a flow", 1, floor);
     done(&STEP, &call);
     for (uint64_t count = 0; count < 4; count++) {
-        call = flow("a flow", count);
+        call = flow("a flow", count, floor);
         done(&RUN, &call);
     }
 }
@@ -78,17 +83,18 @@ static void want_ended(uint64_t settled, uint64_t steps, double residual) {
 static double larger(double a, double b) { return a < b ? b : a; }
 
 /* One step, and the residual by the rules. */
-static void steady_by_reading(double tolerance) {
-    Call call = flow("a flow to a steady state", 1);
-    double before[2 * 6], change = 0.0, highest = 0.0;
+static void steady_by_reading(double tolerance, double floor) {
+    Call call = flow("a flow to a steady state", 1, floor);
+    double before[2 * 6], change = 0.0, highest = 0.0, residual;
     velocities_of(&call.settings, given[F], before);
     velocities_of(&call.settings, wanted[F], wanted[U]);
     for (size_t k = 0; k < 2 * 6; k++) {
         change = larger(change, fabs(wanted[U][k] - before[k]));
         highest = larger(highest, fabs(wanted[U][k]));
     }
+    residual = highest == 0.0 ? change : change / highest;
     call.tolerance = tolerance;
-    want_ended(change / highest < tolerance, 1, change / highest);
+    want_ended(residual < tolerance, 1, residual);
     done(&RUN_TO_STEADY_STATE, &call);
 }
 
@@ -154,8 +160,10 @@ static void steady_bad(void) {
 }
 
 static void run_to_steady_state(void) {
-    steady_by_reading(0.0);
-    steady_by_reading(INFINITY);
+    for (size_t k = 0; k < COUNT(FLOORS); k++) {
+        steady_by_reading(0.0, FLOORS[k]);
+        steady_by_reading(INFINITY, FLOORS[k]);
+    }
     steady_at_rest(1.0, 5, 1, 1);
     steady_at_rest(1.0, 5, 0, 1);
     steady_at_rest(1.0, 5, 3, 3);
@@ -166,7 +174,9 @@ static void run_to_steady_state(void) {
 }
 
 void check_steps(void) {
-    step_and_run();
+    for (size_t k = 0; k < COUNT(FLOORS); k++) {
+        step_and_run(FLOORS[k]);
+    }
     step_collisions();
     step_bounds();
     run_to_steady_state();

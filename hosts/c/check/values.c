@@ -5,11 +5,13 @@
 
 const uint64_t MADE_NAN = UINT64_C(0x7ff8000000000000);
 
+const double BAD_FLOORS[8] = {NAN, -NAN, INFINITY, -INFINITY, 0.0, -0.0, -1e-12, -5e-324};
+
 void done(const Operation *operation, const Call *call) {
     const brothwagon_face bad = {BROTHWAGON_MOVING_WALL, NAN, NAN};
     Call other = *call;
     check(operation, call, 0);
-    if (!tests_for(operation, 3)) {
+    if (!collides(operation)) {
         other.settings.nu = NAN;
         other.settings.collision = UINT64_MAX;
     }
@@ -20,6 +22,10 @@ void done(const Operation *operation, const Call *call) {
         other.settings.x_min = other.settings.x_max = other.settings.y_min = other.settings.y_max = bad;
     }
     check(operation, &other, 0);
+    for (size_t k = 0; !tests_for(operation, 3) && k < COUNT(BAD_FLOORS); k++) {
+        other.settings.floor = BAD_FLOORS[k];
+        check(operation, &other, 0);
+    }
 }
 
 void hold(int buffer, size_t at, double number) { given[buffer][at] = wanted[buffer][at] = number; }

@@ -3,6 +3,8 @@
 //! [`Study`](crate::Study) stands on these. They answer the bare number, and take settings as the library reads them, kinds
 //! that it does not know included: for hosts that lend buffers of their own.
 
+use crate::FLOOR;
+
 /// One face, as the library reads it: [`Face`](crate::Face) has the meaning of each kind.
 #[repr(C)]
 #[derive(Clone, Copy, Debug, Default, PartialEq)]
@@ -19,7 +21,7 @@ pub struct Face {
 /// Settings, as the library reads them: [`Settings`](crate::Settings) has the meaning of each field.
 #[allow(missing_docs)]
 #[repr(C)]
-#[derive(Clone, Copy, Debug, Default, PartialEq)]
+#[derive(Clone, Copy, Debug, PartialEq)]
 pub struct Settings {
     pub nx: u64,
     pub ny: u64,
@@ -34,10 +36,32 @@ pub struct Settings {
     pub x_max: Face,
     pub y_min: Face,
     pub y_max: Face,
+    pub floor: f64,
 }
 
-// The library reads the settings as 19 words.
-const _: () = assert!(size_of::<Settings>() == 19 * 8);
+// The library reads the settings as 20 words.
+const _: () = assert!(size_of::<Settings>() == 20 * 8);
+
+impl Default for Settings {
+    /// Zeros, but for the floor, which is 1e-12: 0.0 is refused.
+    fn default() -> Settings {
+        let face = Face::default();
+        Settings {
+            nx: 0,
+            ny: 0,
+            nu: 0.0,
+            fx: 0.0,
+            fy: 0.0,
+            collision: 0,
+            rate: 0.0,
+            x_min: face,
+            x_max: face,
+            y_min: face,
+            y_max: face,
+            floor: FLOOR,
+        }
+    }
+}
 
 /// A cell of the grid that an obstacle fills.
 #[repr(C)]

@@ -1,5 +1,5 @@
 use crate::obstacles::{self, Block, OBSTACLE};
-use crate::{Collision, Face, MAGIC_BOUNCE_BACK, Obstacle, Refusal, Settings, Study};
+use crate::{Collision, FLOOR, Face, MAGIC_BOUNCE_BACK, Obstacle, Refusal, Settings, Study};
 use std::error::Error;
 use std::fmt;
 
@@ -50,7 +50,7 @@ impl fmt::Display for Wrong {
 
 impl Error for Wrong {}
 
-const NAMES: &str = "sides, viscosity, force, collision, x-min, x-max, y-min, y-max, obstacle, start, steps or steady";
+const NAMES: &str = "sides, viscosity, force, collision, floor, x-min, x-max, y-min, y-max, obstacle, start, steps or steady";
 
 const FACE: &str = "periodic, no-slip, moving-wall UX UY, symmetry, velocity UX UY or pressure DENSITY";
 
@@ -67,6 +67,7 @@ struct Draft {
     viscosity: Option<f64>,
     force: Option<(f64, f64)>,
     collision: Option<Rates>,
+    floor: Option<f64>,
     x_min: Option<Face>,
     x_max: Option<Face>,
     y_min: Option<Face>,
@@ -91,6 +92,14 @@ impl StudyFile {
             expected: format!("a line `{missing}`"),
             found: "the end".to_string(),
         })
+    }
+
+    /// A number as study files have it: `0.1875`, or a division that is rounded once, `3/16`.
+    pub fn number(word: &str) -> Option<f64> {
+        match word.split_once('/') {
+            Some((above, below)) => Some(above.parse::<f64>().ok()? / below.parse::<f64>().ok()?),
+            None => word.parse().ok(),
+        }
     }
 
     /// The study at its start.
@@ -133,6 +142,7 @@ impl Draft {
             "collision" => {
                 once(&mut self.collision, collision(values), name, "collision bgk, mrt, trt RATE or trt magic NUMBER")
             }
+            "floor" => once(&mut self.floor, single(values, number), name, "floor NUMBER"),
             "x-min" => once(&mut self.x_min, face(values), name, &format!("x-min {FACE}")),
             "x-max" => once(&mut self.x_max, face(values), name, &format!("x-max {FACE}")),
             "y-min" => once(&mut self.y_min, face(values), name, &format!("y-min {FACE}")),
@@ -153,7 +163,7 @@ impl Draft {
         self.sides.map_or(Ok(Vec::new()), |(nx, ny)| obstacles::cells(&self.blocks, nx, ny))
     }
 
-    /// The study, with what it left out as in the solver's source: no force, Trt with 3/16, periodic, at rest.
+    /// The study, with what it left out as in the solver's source: no force, Trt with 3/16, the floor 1e-12, periodic, at rest.
     fn finish(self, obstacles: Vec<Obstacle>) -> Result<StudyFile, &'static str> {
         let (nx, ny) = self.sides.ok_or("sides NX NY")?;
         let nu = self.viscosity.ok_or("viscosity NUMBER")?;
@@ -175,6 +185,7 @@ impl Draft {
                 x_max: self.x_max.unwrap_or_default(),
                 y_min: self.y_min.unwrap_or_default(),
                 y_max: self.y_max.unwrap_or_default(),
+                floor: self.floor.unwrap_or(FLOOR),
             },
             magic,
             obstacles,
@@ -213,12 +224,8 @@ fn whole<T: std::str::FromStr>(word: &str) -> Option<T> {
     word.parse().ok()
 }
 
-/// A number as `0.1875`, or as a division that is rounded once, `3/16`.
 fn number(word: &str) -> Option<f64> {
-    match word.split_once('/') {
-        Some((above, below)) => Some(above.parse::<f64>().ok()? / below.parse::<f64>().ok()?),
-        None => word.parse().ok(),
-    }
+    StudyFile::number(word)
 }
 
 fn collision(words: &[&str]) -> Option<Rates> {
@@ -294,7 +301,7 @@ mod tests {
     #[test]
     fn everything_can_be_said() {
         let text = "# all of it\ncollision trt magic 3/16 # before the viscosity\nforce 1e-5 0\nx-min velocity 0.1 0\n\
-                    x-max pressure 1\ny-min no-slip\ny-max moving-wall -0.1 0\nstart shear 1 0.1 0.01\nsteady 1/8 7\n";
+                    x-max pressure 1\ny-min no-slip\ny-max moving-wall -0.1 0\nfloor 1e-20\nstart shear 1 0.1 0.01\nsteady 1/8 7\n";
         let study = StudyFile::read(&format!("{text}{SHORT}")).unwrap();
         let expected = Settings {
             fx: 1e-5,
@@ -302,6 +309,7 @@ mod tests {
             x_max: Face::Pressure(1.0),
             y_min: Face::NoSlip,
             y_max: Face::MovingWall(-0.1, 0.0),
+            floor: 1e-20,
             ..Settings::new(3, 2, 0.1)
         };
         assert_eq!(study.settings, expected);
@@ -316,11 +324,28 @@ mod tests {
     }
 
     #[test]
+    fn a_floor_may_be_any_number_once() {
+        let floor = |text: &str| StudyFile::read(&format!("{SHORT}{text}")).unwrap().settings.floor;
+        assert_eq!(floor(""), 1e-12);
+        assert_eq!(floor("floor 1e-20"), 1e-20);
+        assert_eq!(floor("floor 5e-324 # the least"), f64::from_bits(1));
+        assert_eq!(floor("floor 1/8"), 0.125);
+        // Whether it can be one is the library's to say.
+        assert_eq!(floor("floor -1"), -1.0);
+        assert!(floor("floor nan").is_nan());
+        for line in ["floor", "floor low", "floor 1 2"] {
+            assert_eq!(wrong(&format!("{SHORT}{line}")), format!("line 4: expected floor NUMBER, found `{line}`"));
+        }
+        let twice = wrong(&format!("{SHORT}floor 1e-20\nfloor 1e-20"));
+        assert_eq!(twice, "line 5: expected no second line `floor`, found `floor 1e-20`");
+    }
+
+    #[test]
     fn a_wrong_line_gets_its_number_and_what_was_expected() {
         assert_eq!(wrong(&format!("{SHORT}\nsides 1 1")), "line 5: expected no second line `sides`, found `sides 1 1`");
         assert_eq!(wrong("# a comment\nsides 3"), "line 2: expected sides NX NY, two whole numbers, found `sides 3`");
         assert_eq!(wrong("y-max moving-wall 0.1"), format!("line 1: expected y-max {FACE}, found `y-max moving-wall 0.1`"));
-        let names = "sides, viscosity, force, collision, x-min, x-max, y-min, y-max, obstacle, start, steps or steady";
+        let names = "sides, viscosity, force, collision, floor, x-min, x-max, y-min, y-max, obstacle, start, steps or steady";
         assert_eq!(wrong("faces periodic"), format!("line 1: expected {names}, found `faces periodic`"));
         assert_eq!(wrong("sides 3 2\nsteps 5"), "line 3: expected a line `viscosity NUMBER`, found the end");
         assert!(wrong("\u{feff}sides 3 2").ends_with(r"found `\u{feff}sides 3 2`"));

@@ -8,7 +8,8 @@ pub enum Refusal {
     Sides,
     /// 2: a lent buffer has the wrong length.
     Length,
-    /// 3: the relaxation time or a Trt minus rate is outside its range.
+    /// 3: the relaxation time or a Trt minus rate is outside its range, or the floor is not finite or not above 0.
+    /// Readings of velocities and of the kinetic energy test the floor alone.
     Rate,
     /// 4: a force component is not finite.
     Force,
@@ -37,7 +38,7 @@ pub enum Refusal {
     FileLength,
     /// 16: a list of obstacles does not ascend strictly by x + y·nx.
     Order,
-    /// 17: the nine numbers of a tally do not wrap to the first.
+    /// 17: the sums of a tally's nine planes do not wrap to its first number.
     Tally,
     /// A number that this crate does not know, of a library that it was not written for.
     Unknown(u32),
@@ -82,9 +83,11 @@ impl Refusal {
         match self {
             Refusal::Sides => (1, "a side or the cell count is outside its range (sides 1 to 4,096, at most 1,048,576 cells)"),
             Refusal::Length => (2, "a lent buffer has the wrong length"),
-            Refusal::Rate => {
-                (3, "3·viscosity + 0.5 is not finite or below 0.5, or a Trt minus rate is not finite, below 0 or above 2")
-            }
+            Refusal::Rate => (
+                3,
+                "3·viscosity + 0.5 is not finite or below 0.5, a Trt minus rate is not finite, below 0 or above 2, \
+                 or the floor is not finite or not above 0",
+            ),
             Refusal::Force => (4, "a force component is not finite"),
             Refusal::Face => {
                 (5, "a face number is not finite, a Pressure density is not above 0, or a Velocity face has 1 - un equal to 0")
@@ -99,7 +102,7 @@ impl Refusal {
             Refusal::FileSides => (14, "the file is cut short before the end of its sides"),
             Refusal::FileLength => (15, "the file's count, or its actual length, is wrong"),
             Refusal::Order => (16, "the list of obstacles does not ascend strictly by x + y·nx"),
-            Refusal::Tally => (17, "the nine numbers of a tally do not wrap to the first"),
+            Refusal::Tally => (17, "the sums of a tally's nine planes do not wrap to its first number"),
             Refusal::Unknown(number) => {
                 (number, "a number that this crate does not know; the library is not the one it was written for")
             }
@@ -134,5 +137,32 @@ mod tests {
         assert_eq!(Refusal::of(0), Ok(()));
         assert_eq!(Refusal::of(18), Err(Refusal::Unknown(18)));
         assert_eq!(Refusal::of(u32::MAX).unwrap_err().number(), u32::MAX);
+    }
+
+    /// The words that say what a number means, without those in which a header and a message differ.
+    fn meaning(text: &str) -> Vec<&str> {
+        let words =
+            text.split(|letter: char| !letter.is_alphanumeric()).map(|word| if word == "nu" { "viscosity" } else { word });
+        words.filter(|word| !["", "a", "the", "or", "minus", "steady", "run", "checkpoint"].contains(word)).collect()
+    }
+
+    /// What the header's table says of each number; a row may go on in the next line.
+    fn rows() -> Vec<(u32, String)> {
+        let header = include_str!("../../../include/brothwagon.h");
+        let (table, _) = header.split_once(" *    0  done\n").unwrap().1.split_once("\n *\n").unwrap();
+        let row = |row: &str| {
+            let (number, said) = row.trim_start_matches([' ', '*']).split_once("  ").unwrap();
+            (number.parse().unwrap(), said.to_string())
+        };
+        table.replace("\n *       ", " ").lines().map(row).collect()
+    }
+
+    #[test]
+    fn a_number_means_what_the_header_says() {
+        let rows = rows();
+        assert_eq!(rows.len(), ALL.len());
+        for (refusal, (number, said)) in ALL.into_iter().zip(&rows) {
+            assert_eq!((refusal.number(), meaning(refusal.row().1)), (*number, meaning(said)));
+        }
     }
 }

@@ -3,6 +3,9 @@ use crate::ffi;
 /// The magic number that puts a wall halfway between cells at every viscosity: 3/16.
 pub const MAGIC_BOUNCE_BACK: f64 = 3.0 / 16.0;
 
+/// The floor of the solver's source: it suits every study without thin regions.
+pub const FLOOR: f64 = 1e-12;
+
 /// What one face of the grid does.
 #[derive(Clone, Copy, Debug, Default, PartialEq)]
 pub enum Face {
@@ -84,10 +87,13 @@ pub struct Settings {
     pub y_min: Face,
     /// The face at y = ny - 1.
     pub y_max: Face,
+    /// A cell whose density is below it reads as at rest, and one whose density is smaller in magnitude collides as at rest. It
+    /// must be finite and above 0.
+    pub floor: f64,
 }
 
 impl Settings {
-    /// Periodic faces, no force, and Trt with the magic number 3/16.
+    /// Periodic faces, no force, Trt with the magic number 3/16, and the floor 1e-12.
     pub fn new(nx: usize, ny: usize, nu: f64) -> Settings {
         Settings {
             nx,
@@ -100,6 +106,7 @@ impl Settings {
             x_max: Face::Periodic,
             y_min: Face::Periodic,
             y_max: Face::Periodic,
+            floor: FLOOR,
         }
     }
 }
@@ -123,6 +130,7 @@ impl From<&Settings> for ffi::Settings {
             x_max: settings.x_max.into(),
             y_min: settings.y_min.into(),
             y_max: settings.y_max.into(),
+            floor: settings.floor,
         }
     }
 }

@@ -178,7 +178,7 @@ impl Study {
         Refusal::of(number).map(|()| rho)
     }
 
-    /// The velocity of one cell.
+    /// The velocity of one cell, half the force included; (0, 0) where its density is below the floor.
     pub fn velocity(&self, x: usize, y: usize) -> Result<[f64; 2], Refusal> {
         let (number, u) = ffi::velocity(&self.words(), &self.f, x, y);
         Refusal::of(number).map(|()| u)
@@ -195,7 +195,7 @@ impl Study {
     }
 
     /// The first cell, in the order of `x + y * nx`, whose density or a velocity component is not finite. A steady run that
-    /// meets one in a snapshot is refused with 9.
+    /// meets one in a snapshot is refused with 9. Refused where velocities are: for the floor, and for the force.
     pub fn first_bad_cell(&self) -> Result<Option<BadCell>, Refusal> {
         let Settings { nx, ny, .. } = self.settings;
         for cell in 0..nx * ny {

@@ -14,6 +14,7 @@ fn each_study_ends_in_the_state_that_the_solvers_source_gives() {
         ("channel", "abacbad02f25b937"),
         ("shear", "d6f16322b12c8a1c"),
         ("post", "dc9bf8793b570956"),
+        ("thin", "f9e4ef26b9041785"),
     ];
     for (study, fingerprint) in fingerprints {
         let said = out(&format!("run STUDIES/{study}.study --steps 20"));
@@ -95,4 +96,20 @@ fn help_says_what_the_fingerprint_and_the_statuses_are() {
     let help = out("--help");
     assert!(help.contains("FNV-1a") && help.contains("1 refused, or `check`") && help.contains("4 the state is ruined"));
     assert_eq!(out("run --help"), help);
+}
+
+#[test]
+fn help_has_every_line_of_a_study_file_and_every_option() {
+    let help = out("--help");
+    let (_, said) = failed(&format!("run {}", study("any-line", "any\n")));
+    let (names, _) = said.split_once("expected ").unwrap().1.split_once(", found ").unwrap();
+    // Of the faces, the first has a line, and the others stand in it.
+    for name in names.replace(" or ", ", ").split(", ").filter(|name| !["x-max", "y-min", "y-max"].contains(name)) {
+        assert!(help.lines().any(|line| line.starts_with(&format!("  {name} "))), "{name}");
+    }
+    // What is left out, as docs and settings have it.
+    assert_eq!(help.matches("1e-12 if left out").count(), 1);
+    for option in ["--steps N", "--from FILE", "--save FILE", "--every N --into FOLDER", "--floor NUMBER"] {
+        assert!(help.lines().any(|line| line.starts_with(&format!("    {option} "))), "{option}");
+    }
 }

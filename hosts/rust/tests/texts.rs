@@ -2,17 +2,18 @@
 
 use brothwagon::StudyFile;
 
-const STUDIES: [&str; 4] = [
+const STUDIES: [&str; 5] = [
     include_str!("../../../studies/cavity.study"),
     include_str!("../../../studies/channel.study"),
     include_str!("../../../studies/post.study"),
     include_str!("../../../studies/shear.study"),
+    include_str!("../../../studies/thin.study"),
 ];
 
 /// What stands in study files, and numbers at the edge of what can.
-const WORDS: &str = "sides viscosity steps force collision x-min x-max y-min y-max obstacle to start steady bgk mrt trt magic \
-                     periodic no-slip moving-wall symmetry velocity pressure uniform shear 0 1 3/16 -0 -1 1e-9 1e400 nan inf 0/0 \
-                     1/2/3 / 4096 18446744073709551615 18446744073709551616";
+const WORDS: &str = "sides viscosity steps force collision floor x-min x-max y-min y-max obstacle to start steady bgk mrt trt \
+                     magic periodic no-slip moving-wall symmetry velocity pressure uniform shear 0 1 3/16 -0 -1 1e-9 1e400 nan \
+                     inf 0/0 1/2/3 / 4096 18446744073709551615 18446744073709551616";
 
 /// What cuts words and lines, and what has no business in a study file.
 const MARKS: &str = "#  \n\n\r\t+-./e_\0\u{1b}é∞\u{301}\u{2028}\u{feff}\u{10ffff}";

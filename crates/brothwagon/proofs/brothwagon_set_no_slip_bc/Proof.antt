@@ -67,10 +67,10 @@ abbrev ObsR : RattleType
 ObsR = Obs.the-row
 
 abbrev WordsR : RattleType
-WordsR = Array u64 tt 19
+WordsR = Array u64 tt 20
 
 abbrev words-slot : Slot 3
-words-slot = ArrayOf (plain (λ _. u64)) (λ _. tt) 19
+words-slot = ArrayOf (plain (λ _. u64)) (λ _. tt) 20
 
 -- where local i stands among what is known, if local 0 stands at `base`: each takes two places
 abbrev local : ℕ → ℕ → ℕ

@@ -7,11 +7,13 @@ use Rattle.host.proofs.settings_of.Tie as tie
 returns : tie.Need-returns
 unfolding settingsOf
 returns c =
-    let fy = c in
-    let fx = c .before .before in
+    let floor = c in
+    let fy = floor .before .before in
+    let fx = fy .before .before in
     let nu = fx .before .before in
     let faces = nu .before .before .before .before in
     rw (
+      floor .value4 .ensures,
       fy .value3 .ensures,
       fx .value2 .ensures,
       nu .value .ensures,
@@ -27,4 +29,4 @@ settings-of-spec =
     tie.close
     (tie.spec (λ c κs. search needs) (λ c κs. search needs) (λ c κs. search needs) (λ c κs. search needs) (λ c κs. search needs)
     (λ c. search needs) (λ c. search needs) (λ c. search needs) (λ c κs. search needs) (λ c. search needs)
-    (λ c κs. search needs) (λ c. search needs) (λ c κs. search needs) returns)
+    (λ c κs. search needs) (λ c. search needs) (λ c κs. search needs) (λ c. search needs) (λ c κs. search needs) returns)

@@ -21,7 +21,7 @@ here : (c : tie.Else1) → let a = c .before .before .before .args in Holds (now
 here c =
     let a = c .before .before .before .args in
     let k = known (Call.velocity (a .s) _ (a .x) (a .y)) (sym (c .before .velocity-refusal .ensures) ∙ c .if1 .left) in
-    holds-at _ _ _ _ _ (k .0) (k .1 .0 .size) (k .1 .1 .1 .0 .column) (k .1 .1 .1 .0 .row)
+    holds-at _ _ _ _ _ (k .0) (k .1 .0 .size) (k .1 .1 .1 .1 .0 .column) (k .1 .1 .1 .1 .0 .row)
 
 returns-2 : tie.Need-returns-2
 returns-2 c =

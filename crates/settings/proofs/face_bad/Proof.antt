@@ -37,8 +37,8 @@ not-finite-requires-4 c κs = search needs
 enum-known-face-3 : tie.Need-enum-known-face-3
 enum-known-face-3 c = search needs
 
-not-finite-requires-5 : tie.Need-not-finite-requires-5
-not-finite-requires-5 c κs = search needs
+not-positive-requires : tie.Need-not-positive-requires
+not-positive-requires c κs = search needs
 
 returns : tie.Need-returns
 unfolding faceBad
@@ -79,7 +79,7 @@ face-bad-spec =
     not-finite-requires-3
     not-finite-requires-4
     enum-known-face-3
-    not-finite-requires-5
+    not-positive-requires
     returns
     returns-2
     returns-3

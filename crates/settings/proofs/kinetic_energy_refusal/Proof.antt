@@ -3,14 +3,14 @@ use borrow.Author.Needs.{needs}
 use Rattle.settings.proofs.kinetic_energy_refusal.Statement.{statement}
 use Rattle.settings.proofs.kinetic_energy_refusal.Tie as tie
 
-force-requires : tie.Need-force-requires
-force-requires c κs = search needs
+moments-requires : tie.Need-moments-requires
+moments-requires c κs = search needs
 
 populations-requires : tie.Need-populations-requires
 populations-requires c κs = search needs
 
 returns : tie.Need-returns
-returns c = rw (c .populations .ensures, c .before .force .ensures)
+returns c = rw (c .populations .ensures, c .before .moments .ensures)
 
 pub kinetic-energy-refusal-spec : {M : Type 1} → statement M
-kinetic-energy-refusal-spec = tie.close (tie.spec force-requires populations-requires returns)
+kinetic-energy-refusal-spec = tie.close (tie.spec moments-requires populations-requires returns)

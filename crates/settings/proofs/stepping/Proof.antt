@@ -6,8 +6,8 @@ use Rattle.settings.proofs.stepping.Tie as tie
 faces-requires : tie.Need-faces-requires
 faces-requires c κs = search needs
 
-force-requires : tie.Need-force-requires
-force-requires c κs = search needs
+moments-requires : tie.Need-moments-requires
+moments-requires c κs = search needs
 
 rates-requires : tie.Need-rates-requires
 rates-requires c κs = search needs
@@ -16,9 +16,9 @@ returns : tie.Need-returns
 returns c =
     rw (
       c .rates .ensures,
-      c .before .force .ensures,
+      c .before .moments .ensures,
       c .before .before .faces .ensures,
     )
 
 pub stepping-spec : {M : Type 1} → statement M
-stepping-spec = tie.close (tie.spec faces-requires force-requires rates-requires returns)
+stepping-spec = tie.close (tie.spec faces-requires moments-requires rates-requires returns)

@@ -3,8 +3,8 @@ use borrow.Author.Needs.{needs}
 use Rattle.settings.proofs.velocity_field_refusal.Statement.{statement}
 use Rattle.settings.proofs.velocity_field_refusal.Tie as tie
 
-force-requires : tie.Need-force-requires
-force-requires c κs = search needs
+moments-requires : tie.Need-moments-requires
+moments-requires c κs = search needs
 
 lengths-requires : tie.Need-lengths-requires
 lengths-requires c κs = search needs
@@ -17,9 +17,9 @@ returns c =
     rw (
       c .populations .ensures,
       c .before .lengths .ensures,
-      c .before .before .force .ensures,
+      c .before .before .moments .ensures,
     )
 
 pub velocity-field-refusal-spec : {M : Type 1} → statement M
 velocity-field-refusal-spec =
-    tie.close (tie.spec force-requires lengths-requires populations-requires returns)
+    tie.close (tie.spec moments-requires lengths-requires populations-requires returns)

@@ -6,8 +6,8 @@ use Rattle.settings.proofs.velocity_refusal.Tie as tie
 place-requires : tie.Need-place-requires
 place-requires c κs = search needs
 
-force-requires : tie.Need-force-requires
-force-requires c κs = search needs
+moments-requires : tie.Need-moments-requires
+moments-requires c κs = search needs
 
 populations-requires : tie.Need-populations-requires
 populations-requires c κs = search needs
@@ -16,10 +16,10 @@ returns : tie.Need-returns
 returns c =
     rw (
       c .populations .ensures,
-      c .before .force .ensures,
+      c .before .moments .ensures,
       c .before .before .place .ensures,
     )
 
 pub velocity-refusal-spec : {M : Type 1} → statement M
 velocity-refusal-spec =
-    tie.close (tie.spec place-requires force-requires populations-requires returns)
+    tie.close (tie.spec place-requires moments-requires populations-requires returns)

@@ -9,8 +9,8 @@ pub bgk-pass-spec : {M : Type 1} → statement M
 bgk-pass-spec =
     tie.close
     (tie.spec
-    (λ n fx fy rates f post₀ c₀ post c. Passing (bgk rates) fx fy n f post₀ post c)
-    (λ n fx fy rates f post₀ c₀ post c. n - c)
+    (λ n fx fy floor rates f post₀ c₀ post c. Passing (bgk rates) fx fy floor n f post₀ post c)
+    (λ n fx fy floor rates f post₀ c₀ post c. n - c)
     (λ c. search passing) (λ c κs. search passing) (λ c κs. search passing)
     (λ c κs. search passing) (λ c. search passing) (λ c. search passing)
     (λ c. search passing) (λ c. search passing) (λ c. search passing))

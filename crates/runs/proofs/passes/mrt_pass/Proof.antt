@@ -9,8 +9,8 @@ pub mrt-pass-spec : {M : Type 1} → statement M
 mrt-pass-spec =
     tie.close
     (tie.spec
-    (λ n fx fy rates f post₀ c₀ post c. Passing (mrt rates) fx fy n f post₀ post c)
-    (λ n fx fy rates f post₀ c₀ post c. n - c)
+    (λ n fx fy floor rates f post₀ c₀ post c. Passing (mrt rates) fx fy floor n f post₀ post c)
+    (λ n fx fy floor rates f post₀ c₀ post c. n - c)
     (λ c. search passing) (λ c κs. search passing) (λ c κs. search passing)
     (λ c κs. search passing) (λ c. search passing) (λ c. search passing)
     (λ c. search passing) (λ c. search passing) (λ c. search passing))

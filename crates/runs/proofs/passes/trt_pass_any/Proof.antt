@@ -9,8 +9,8 @@ pub trt-pass-any-spec : {M : Type 1} → statement M
 trt-pass-any-spec =
     tie.close
     (tie.spec
-    (λ n fx fy rates f post₀ c₀ post c. Passing (trt rates) fx fy n f post₀ post c)
-    (λ n fx fy rates f post₀ c₀ post c. n - c)
+    (λ n fx fy floor rates f post₀ c₀ post c. Passing (trt rates) fx fy floor n f post₀ post c)
+    (λ n fx fy floor rates f post₀ c₀ post c. n - c)
     (λ c. search passing) (λ c κs. search passing) (λ c κs. search passing)
     (λ c κs. search passing) (λ c. search passing) (λ c. search passing)
     (λ c. search passing) (λ c. search passing) (λ c. search passing))

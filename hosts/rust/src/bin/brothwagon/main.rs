@@ -58,7 +58,7 @@ fn command(words: &[String], out: &mut impl Write) -> Result<(), Failure> {
         _ if words.contains(&"--help") || words.contains(&"-h") => help(out),
         ["run", ref words @ ..] => start(Command::Run, words, out),
         ["steady", ref words @ ..] => start(Command::Steady, words, out),
-        ["show", path] => show(path, out),
+        ["show", ref words @ ..] => show(words, out),
         ["check", ref words @ ..] => check(words, out),
         ["lossless", path] => lossless(path, out),
         ["version" | "--version" | "-V"] => version(out),

@@ -1,7 +1,8 @@
-//! The words after `run` and `steady`.
+//! The words after `run`, `steady` and `show`.
 
 use crate::failure::Failure;
 use crate::names;
+use brothwagon::{FLOOR, StudyFile};
 use std::fmt;
 use std::path::Path;
 
@@ -74,27 +75,10 @@ impl<'a> Draft<'a> {
             (Command::Run, "--steps") => (&mut self.steps, "a whole number"),
             (Command::Run, "--every") => (&mut self.every, "a whole number, at least 1"),
             (Command::Run, "--into") => (&mut self.into, "a folder"),
-            (command, _) if word.starts_with('-') => {
-                return Err(format!("{command} has no option `{word}`; brothwagon --help lists them"));
-            }
-            _ => return self.take_study(word),
+            (command, _) if word.starts_with('-') => return Err(no_option(command, word)),
+            (command, _) => return only(&mut self.study, word, format_args!("{command} takes one study")),
         };
-        if kept.is_some() {
-            return Err(format!("{word} is given twice"));
-        }
-        match after.next() {
-            Some(value) if !value.starts_with("--") => *kept = Some(value),
-            Some(value) => return Err(format!("{word} takes {takes}, not `{value}`")),
-            None => return Err(format!("{word} takes {takes}, and nothing follows it")),
-        }
-        Ok(())
-    }
-
-    fn take_study(&mut self, word: &'a str) -> Result<(), String> {
-        match self.study.replace(word) {
-            Some(other) => Err(format!("{} takes one study, not both `{other}` and `{word}`", self.command)),
-            None => Ok(()),
-        }
+        once(kept, word, takes, after)
     }
 
     fn finish(self) -> Result<Options, String> {
@@ -129,6 +113,65 @@ impl<'a> Draft<'a> {
             _ => Ok(()),
         }
     }
+}
+
+/// What `show` is asked for.
+pub struct Shown<'a> {
+    pub file: &'a str,
+    /// The floor of the checkpoint's study, which the file does not hold: as the word that was given, and as a number.
+    pub given: Option<&'a str>,
+    pub floor: f64,
+}
+
+impl<'a> Shown<'a> {
+    /// Reads the words after `show`.
+    pub fn read(words: &[&'a str]) -> Result<Shown<'a>, Failure> {
+        Shown::taken(words.iter().copied()).map_err(Failure::Unreadable)
+    }
+
+    fn taken(mut words: impl Iterator<Item = &'a str>) -> Result<Shown<'a>, String> {
+        let (mut file, mut floor) = (None, None);
+        while let Some(word) = words.next() {
+            match word {
+                "--floor" => once(&mut floor, word, "a number", &mut words)?,
+                _ if word.starts_with('-') => return Err(no_option("show", word)),
+                _ => only(&mut file, word, "show takes one checkpoint file")?,
+            }
+        }
+        let file = file.ok_or("show takes a checkpoint file; brothwagon --help says more")?;
+        let read = |word: &str| StudyFile::number(word).ok_or_else(|| format!("--floor takes a number, not `{word}`"));
+        Ok(Shown { file, given: floor, floor: floor.map_or(Ok(FLOOR), read)? })
+    }
+}
+
+fn no_option(command: impl fmt::Display, word: &str) -> String {
+    format!("{command} has no option `{word}`; brothwagon --help lists them")
+}
+
+/// Keeps the word that is no option, of which there is one.
+fn only<'a>(kept: &mut Option<&'a str>, word: &'a str, one: impl fmt::Display) -> Result<(), String> {
+    match kept.replace(word) {
+        Some(other) => Err(format!("{one}, not both `{other}` and `{word}`")),
+        None => Ok(()),
+    }
+}
+
+/// Keeps what follows an option, once.
+fn once<'a>(
+    kept: &mut Option<&'a str>,
+    option: &str,
+    takes: &str,
+    after: &mut impl Iterator<Item = &'a str>,
+) -> Result<(), String> {
+    if kept.is_some() {
+        return Err(format!("{option} is given twice"));
+    }
+    match after.next() {
+        Some(value) if !value.starts_with("--") => *kept = Some(value),
+        Some(value) => return Err(format!("{option} takes {takes}, not `{value}`")),
+        None => return Err(format!("{option} takes {takes}, and nothing follows it")),
+    }
+    Ok(())
 }
 
 fn at_least_one(word: &str) -> Result<u64, String> {
@@ -203,5 +246,31 @@ mod tests {
         assert_eq!(wrong("a --save b.tally"), "--save takes a checkpoint's name, not `b.tally`: a tally's name ends in .tally");
         assert_eq!(wrong("a --every 1"), "--every asks for --into FOLDER");
         assert_eq!(wrong("a --into b"), "--into asks for --every N");
+    }
+
+    fn shown(words: &str) -> Result<(&str, f64), String> {
+        Shown::taken(words.split_whitespace()).map(|shown| (shown.file, shown.floor))
+    }
+
+    #[test]
+    fn show_takes_a_file_and_its_studys_floor() {
+        assert_eq!(shown("a"), Ok(("a", 1e-12)));
+        assert_eq!(shown("a --floor 1e-20"), Ok(("a", 1e-20)));
+        assert_eq!(shown("--floor 1/8 a"), Ok(("a", 0.125)));
+        // Whether it can be one is the library's to say.
+        assert_eq!(shown("a --floor -1"), Ok(("a", -1.0)));
+    }
+
+    #[test]
+    fn each_wrong_word_of_show_is_named() {
+        let wrong = |words| shown(words).unwrap_err();
+        assert_eq!(wrong(""), "show takes a checkpoint file; brothwagon --help says more");
+        assert_eq!(wrong("--floor 1"), "show takes a checkpoint file; brothwagon --help says more");
+        assert_eq!(wrong("a b"), "show takes one checkpoint file, not both `a` and `b`");
+        assert_eq!(wrong("a --from b"), "show has no option `--from`; brothwagon --help lists them");
+        assert_eq!(wrong("a --floor 1 --floor 1"), "--floor is given twice");
+        assert_eq!(wrong("a --floor"), "--floor takes a number, and nothing follows it");
+        assert_eq!(wrong("--floor --floor a"), "--floor takes a number, not `--floor`");
+        assert_eq!(wrong("a --floor low"), "--floor takes a number, not `low`");
     }
 }
