@@ -5,8 +5,8 @@
  *    0  done
  *    1  a side or the cell count is outside its range: sides 1 to 4,096, at most 1,048,576 cells
  *    2  a lent buffer has the wrong length
- *    3  3 nu + 0.5 is not finite or below 0.5; for Trt, the magic number is not finite or not above 0, or the resulting rate is
- *       not finite, below 0 or above 2; or the floor is not finite or not above 0
+ *    3  3 nu + 0.5 is not finite or below 0.5; a Trt rate is not finite, below 0 or above 2;
+ *       or the floor is not finite or not above 0
  *    4  a force component is not finite
  *    5  a face number is not finite; a Pressure density is not above 0; or a Velocity face has 1 - un equal to 0
  *    6  x, y or direction outside, or the place of any obstacle of a list
@@ -80,22 +80,17 @@ typedef struct {
 enum {
     BROTHWAGON_BGK = 0,
     BROTHWAGON_MRT = 1,
-    BROTHWAGON_TRT = 2 /* magic: its second rate comes of that and nu */
+    BROTHWAGON_TRT = 2 /* rate: the minus rate */
 };
 
 /* All 20 words are read, so a host that was compiled with 19, before there was a floor, must be compiled anew. A floor that is
- * left out is 0, which gives 3 where a density is tested: by velocity, velocity_field, kinetic_energy, step and the two runs.
- *
- * Trt has two rates, w+ = 1 / (3 nu + 0.5) and w- = 1 / (magic / (1 / w+ - 0.5) + 0.5), each operation rounded; where 1 / w+ is
- * 0.5, as at viscosity 0, w- is 0. The host gives the magic number alone, and keeps it when the viscosity changes. A host that
- * gave w- itself, in the word that was called rate, must give magic in its place, 3 nu (1 / w- - 0.5) for a w- between 0 and 2
- * and 1e-300 for 2, and be compiled anew; else its rate is taken for a magic number, and the flow is another. */
+ * left out is 0, which gives 3 where a density is tested: by velocity, velocity_field, kinetic_energy, step and the two runs. */
 typedef struct {
     uint64_t nx, ny;
     double nu;     /* kinematic viscosity */
     double fx, fy; /* body force */
     uint64_t collision;
-    double magic; /* of Trt alone, finite and above 0: 3.0 / 16.0 puts a wall halfway between cells at every viscosity */
+    double rate; /* of Trt alone */
     brothwagon_face x_min, x_max, y_min, y_max;
     double floor; /* finite and above 0: 1e-12 unless the study has thin regions; velocity and step say what it does */
 } brothwagon_settings; /* 20 words of 8 bytes */

@@ -7,7 +7,7 @@ mod d2q9;
 mod special;
 
 use boundary::{Boundaries, Boundary, Side};
-use collision::{CollisionModel, trt_omega_minus};
+use collision::CollisionModel;
 use d2q9::{E, LatticeBoltzmann2D};
 use special::SPECIAL;
 
@@ -61,10 +61,10 @@ impl Made {
 }
 
 /// A collision of the kind 0 to 2.
-fn collision(kind: u64, magic: f64) -> CollisionModel {
+fn collision(kind: u64, rate: f64) -> CollisionModel {
     match kind {
         0 => CollisionModel::Bgk,
-        1 => CollisionModel::Trt { magic },
+        1 => CollisionModel::Trt { magic: rate },
         _ => CollisionModel::Mrt,
     }
 }
@@ -104,10 +104,10 @@ fn cells(made: &mut Made) {
             for mode in 0..3 {
                 for _ in 0..3 {
                     let f = made.numbers(mode, 9);
-                    let (tau, magic) = (made.number(mode), made.number(mode));
+                    let (tau, rate) = (made.number(mode), made.number(mode));
                     let (fx, fy) = (made.number(mode), made.number(mode));
                     let mut lbm = LatticeBoltzmann2D::new(1, 1, 0.0)
-                        .with_collision(collision(kind, magic))
+                        .with_collision(collision(kind, rate))
                         .with_force(wanted(force, fx, fy));
                     lbm.tau = tau;
                     lbm.f = f;
@@ -216,13 +216,13 @@ impl Study {
     fn drawn(made: &mut Made, nx: usize, ny: usize, q: u64) -> Study {
         let c = made.next();
         let (shift, force, mode) = (c % 6, (c >> 8) % 4, (c >> 16) % 4);
-        let (nu, magic) = (made.number(0) / 10.0, made.number(0));
+        let (nu, rate) = (made.number(0) / 10.0, made.number(0));
         let (fx, fy) = (made.number(0) / 100.0, made.number(0) / 100.0);
         Study {
             nx,
             ny,
             nu,
-            collision: collision(q % 3, magic),
+            collision: collision(q % 3, rate),
             force: wanted(force, fx, fy),
             faces: boundaries(made, q / 3 % 6, q / 18, shift),
             f: made.numbers(mode, 9 * nx * ny),
@@ -361,22 +361,6 @@ fn floors() {
     }
 }
 
-/// One cell for each magic number and viscosity: the minus rate, then the nine post-collision entries. At the first three
-/// viscosities 1/ω₊ is 0.5, so that the rate is 0; at 0.104 and 5e307 it is not τ.
-fn magics(made: &mut Made) {
-    const MAGICS: [f64; 10] = [5e-324, 1e-308, 1.0 / 12.0, 1.0 / 6.0, 3.0 / 16.0, 0.25, 0.75, 1.0, 1e16, 1e308];
-    const VISCOSITIES: [f64; 13] = [0.0, 5e-324, 1e-17, 1e-16, 1e-3, 0.1, 0.104, 0.5, 1.0 / 3.0, 7.25, 1e16, 1e307, 5e307];
-    for magic in MAGICS {
-        for nu in VISCOSITIES {
-            let mut lbm = LatticeBoltzmann2D::new(1, 1, nu).with_collision(CollisionModel::Trt { magic });
-            lbm.f = made.numbers(3, 9);
-            lbm.collide_only();
-            let rate = trt_omega_minus(1.0 / lbm.tau, magic);
-            line(&[vec![pattern(rate)], patterns(lbm.post())].concat());
-        }
-    }
-}
-
 fn main() {
     let mut made = Made(88172645463325252);
     cells(&mut made);
@@ -386,5 +370,4 @@ fn main() {
     steadies(&mut made);
     all_ruined();
     floors();
-    magics(&mut made);
 }

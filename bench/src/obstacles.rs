@@ -3,7 +3,7 @@
 
 use crate::by_level::{self, Line, Work};
 use crate::study::Study;
-use brothwagon::{Obstacle, ffi};
+use brothwagon::{MAGIC_BOUNCE_BACK, Obstacle, ffi};
 use std::io;
 
 const STUDY: Study = Study { side: 256, density: 1, kind: 0, forced: false };
@@ -69,7 +69,7 @@ impl Obstacles {
     fn ends_alike(&mut self, word: &str) -> bool {
         self.f = STUDY.start();
         self.act(word);
-        let mut rust = source::solver(&self.settings, STUDY.start(), self.post.clone());
+        let mut rust = source::solver(&self.settings, Some(MAGIC_BOUNCE_BACK), STUDY.start(), self.post.clone());
         for _ in 0..STEPS {
             rust.run(1);
             rust.set_no_slip_bc(&list(word));

@@ -59,7 +59,7 @@ impl Study {
         let collision = match KINDS[self.kind].0 {
             "bgk" => Collision::Bgk,
             "mrt" => Collision::Mrt,
-            _ => Collision::Trt { magic: MAGIC_BOUNCE_BACK },
+            _ => Collision::trt_with_magic(NU, MAGIC_BOUNCE_BACK),
         };
         let fx = if self.forced { FORCE } else { 0.0 };
         let wall = Face::NoSlip;

@@ -5,7 +5,7 @@
 //! nanoseconds that N steps took; `end`, answered by the bytes of both buffers.
 
 use crate::study::Study;
-use brothwagon::ffi;
+use brothwagon::{MAGIC_BOUNCE_BACK, ffi};
 use source::Solver;
 use source::levels::as_asked;
 use std::hint::black_box;
@@ -32,7 +32,7 @@ impl Taker {
         let (settings, f) = (study.settings(), study.start());
         let post = vec![0.0; f.len()];
         match role {
-            "rust" => Taker::Rust(source::solver(&settings, f, post)),
+            "rust" => Taker::Rust(source::solver(&settings, Some(MAGIC_BOUNCE_BACK), f, post)),
             "copy" => Taker::Copy { f, post },
             _ => Taker::Port { settings, f, post },
         }

@@ -1,15 +1,17 @@
 //! Copies the Rust's files to the build folder, as modules of this crate. BROTHWAGON_SOURCE is the folder with its
 //! crates/phyz-lbm/src; shared/docs/src beside the repository by default.
 //!
-//! `d2q9` is the file unchanged, with the access block of vectors/ appended. `floored` is the same with a floor that can be
-//! given: a field of the solver, which both density tests read where the file has 1e-12.
+//! `d2q9` is the file unchanged, with the access block of vectors/ appended. `varied` is the same with two numbers that can be
+//! given: the minus rate, put in where `collide_trt` works it out, and the floor, a field of the solver that both density tests
+//! read where the file has 1e-12.
 
 use std::env;
 use std::fs;
 use std::path::{Path, PathBuf};
 
-/// What is another in `floored`, and in how many places of the file: both density tests, and the solver's fields.
-const CHANGES: [(&str, usize, &str); 3] = [
+/// What is another in `varied`, and in how many places of the file: the rate, both density tests, and the solver's fields.
+const CHANGES: [(&str, usize, &str); 4] = [
+    ("trt_omega_minus(omega_p, magic)", 1, "magic"),
     ("1e-12", 2, "self.floor"),
     ("pub boundaries: Boundaries<2>,", 1, "pub boundaries: Boundaries<2>, pub floor: f64,"),
     ("boundaries: Boundaries::periodic(),", 1, "boundaries: Boundaries::periodic(), floor: 1e-12,"),
@@ -26,12 +28,12 @@ fn main() {
     }
 
     let d2q9 = read(&source.join("d2q9.rs")) + &read(&root.join("vectors/access.rs"));
-    let floored = CHANGES.into_iter().fold(d2q9.clone(), changed);
+    let varied = CHANGES.into_iter().fold(d2q9.clone(), changed);
     let modules = [
         module("boundary", &read(&source.join("boundary.rs"))),
         module("collision", &read(&source.join("collision.rs"))),
         module("d2q9", &d2q9),
-        module("floored", &floored),
+        module("varied", &varied),
     ];
     fs::write(built("modules"), modules.concat()).expect("the build folder can be written");
 }

@@ -127,6 +127,8 @@ impl Start {
 pub struct Case {
     pub operation: Operation,
     pub settings: ffi::Settings,
+    /// The magic number that the settings' minus rate comes from, if one does.
+    pub magic: Option<f64>,
     pub start: Start,
     /// What the buffers are made from.
     pub seed: u64,
@@ -206,11 +208,6 @@ impl Case {
         }
     }
 
-    /// Whether the call collides anything: a run of no steps does not.
-    pub fn collides(&self) -> bool {
-        self.operation.collides() && (self.operation == Operation::Step || self.steps > 0)
-    }
-
     /// The run that comes before the call, so that obstacles also throw back what steps have made.
     pub fn before(&self) -> Option<Case> {
         let comes_first = self.operation == Operation::SetNoSlipBc && self.steps > 0;
@@ -236,10 +233,11 @@ impl fmt::Display for Case {
         let s = &self.settings;
         writeln!(out, "{:?} on {} by {}", self.operation, s.nx, s.ny)?;
         writeln!(out, "  nu {:?}, force ({:?}, {:?}), floor {:?}", s.nu, s.fx, s.fy, s.floor)?;
+        let magic = self.magic.map(|magic| format!(", of magic number {magic:?}")).unwrap_or_default();
         match s.collision {
             0 => writeln!(out, "  Bgk")?,
             1 => writeln!(out, "  Mrt")?,
-            2 => writeln!(out, "  Trt {{ magic: {:?} }}", s.magic)?,
+            2 => writeln!(out, "  Trt({:?}){magic}", s.rate)?,
             other => writeln!(out, "  collision of kind {other}")?,
         }
         for (name, face) in ["x min", "x max", "y min", "y max"].iter().zip(self.faces()) {

@@ -4,7 +4,6 @@ use crate::call::call;
 use crate::case::{BUFFERS, Case, F, GUARD, Operation, POST};
 use crate::expected::{Answer, Lent, Listed, all_made, ask, expected, pattern};
 use crate::floors::Floors;
-use crate::magics::Magics;
 use crate::rules;
 
 /// Both sides' buffers, kept from case to case.
@@ -16,7 +15,6 @@ pub struct Comparison {
     again: Lent,
     pub listed: Listed,
     pub floors: Floors,
-    pub magics: Magics,
 }
 
 /// What was compared in a case without a difference.
@@ -58,7 +56,6 @@ impl Comparison {
         }
         if wanted.number == 0 {
             self.floors = floors;
-            self.magics.count(case);
             match case.operation {
                 Operation::Reverse => entries += self.streams_back(case)?,
                 // The Rust's own run knows nothing of a sum that was put right on the way.

@@ -54,7 +54,7 @@ fn settings(nx: u64, ny: u64) -> Settings {
 
 /// The Rust, which has no floor but its own.
 fn on(settings: &Settings, f: &[f64]) -> Box<dyn Solver> {
-    solver(&Settings { floor: FLOOR, ..*settings }, f.to_vec(), vec![0.0; f.len()])
+    solver(&Settings { floor: FLOOR, ..*settings }, None, f.to_vec(), vec![0.0; f.len()])
 }
 
 fn only(population: f64) -> [f64; 9] {
@@ -65,7 +65,7 @@ fn sums() -> Vec<Row> {
     let one = settings(1, 1);
     let f = [-0.0; 9];
     let wall = Settings { y_max: Face { kind: 2, a: 0.1, b: 0.0 }, ..one };
-    let mut rust = solver(&wall, vec![0.0; 9], f.to_vec());
+    let mut rust = solver(&wall, None, vec![0.0; 9], f.to_vec());
     rust.stream_with_faces();
     let mut port = [0.0; 9];
     ffi::stream_with_faces(&wall, &f, &mut port);
@@ -201,7 +201,6 @@ fn refusals() -> Vec<Row> {
         refused("a step, 0 by 1, closed box", closed, "panics", 1, "number 1"),
         refused("a step, 4097 by 1", settings(4097, 1), "goes on", 1, "number 1"),
         refused("a step, viscosity -1", Settings { nu: -1.0, ..one }, "goes on", 1, "number 3"),
-        refused("a step, Trt with magic number 0", Settings { collision: 2, magic: 0.0, ..one }, "goes on", 1, "number 3"),
         refused("a step, floor 0", Settings { floor: 0.0, ..one }, "goes on", 1, "number 3"),
         refused("a step, force NaN", Settings { fx: NAN, ..one }, "goes on", 1, "number 4"),
         refused("a step, x min Pressure(0)", Settings { x_min: empty, ..one }, "goes on", 1, "number 5"),

@@ -61,7 +61,7 @@ pub fn all_made(case: &Case, answer: &Answer, buffer: usize) -> bool {
 
 /// Asks the Rust on these buffers.
 pub fn ask<T>(case: &Case, f: &mut Vec<f64>, post: &mut Vec<f64>, question: impl FnOnce(&mut dyn Solver) -> T) -> T {
-    let mut solver = source::solver(&case.settings, take(f), take(post));
+    let mut solver = source::solver(&case.settings, case.magic, take(f), take(post));
     let answer = question(&mut *solver);
     (*f, *post) = (take(solver.f()), take(solver.post()));
     answer

@@ -28,7 +28,8 @@ pub struct Changed {
 impl Floors {
     /// Counts a call by the populations that it is lent.
     pub fn count(&mut self, case: &Case, f: &[f64]) {
-        let (reads, collides) = (case.operation.reads_velocities(), case.collides());
+        let reads = case.operation.reads_velocities();
+        let collides = case.operation.collides() && (case.operation == Operation::Step || case.steps > 0);
         let floor = case.settings.floor;
         if floor == FLOOR || !reads && !collides {
             return;

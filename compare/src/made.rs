@@ -45,11 +45,6 @@ impl Made {
         f64::from_bits(self.next())
     }
 
-    /// Any finite number above 0, of one size as likely as of another.
-    pub fn above_zero(&mut self) -> f64 {
-        f64::from_bits(1 + self.below(f64::MAX.to_bits()))
-    }
-
     /// A number, one of the two next to it, or the negative of one of these.
     pub fn next_to(&mut self, number: f64) -> f64 {
         let near = self.pick(&[number, number.next_down(), number.next_up()]);

@@ -9,7 +9,6 @@ mod expected;
 mod floors;
 mod levels;
 mod made;
-mod magics;
 mod progress;
 mod questions;
 mod random;
@@ -22,7 +21,6 @@ use case::{BUFFERS, Case, OPERATIONS};
 use checkpoints::CHECKPOINTS;
 use comparison::{Comparison, Difference};
 use floors::Floors;
-use magics::Magics;
 use progress::Progress;
 use questions::shown;
 use source::levels::{as_asked, level};
@@ -196,23 +194,18 @@ fn report(plan: &Plan, counts: &Counts, comparison: &Comparison) {
     println!("        {} cells were read and {} collided at rest, which by 1e-12 would move", read.at_rest, collided.at_rest);
     println!("        {} cells were read and {} collided moving, which by 1e-12 would rest", read.moving, collided.moving);
     println!("        {exact} cells had that density, or its negative, to the last bit");
-    let Magics { calls, zeros, twos, rounded, tiny, huge } = comparison.magics;
-    println!("magic numbers: {calls} calls collided with Trt, {tiny} by one below 1e-300 and {huge} by one above 1e300");
-    println!("               {zeros} had the rate 0 for a 1/w+ - 0.5 of 0, {twos} had the rate 2");
-    println!("               {rounded} had a rate that tau - 0.5 in place of 1/w+ - 0.5 would change");
     let (cases, entries) = (counts.cases, counts.entries);
     println!("compare: {cases} cases on {}, {entries} entries compared, 0 differences that are not listed", level());
 }
 
-/// A long comparison that never met some number, number 9 for a density alone, what a floor decides, or what a magic number can
-/// lead to would say little.
+/// A long comparison that never met some number, number 9 for a density alone, or what a floor decides, would say little.
 fn reached_all(counts: &Counts, comparison: &Comparison) -> bool {
     let numbers = NUMBERS.into_iter().filter(|&number| counts.by_number[number] == 0);
     let mut missed: Vec<String> = numbers.map(|number| format!("number {number}")).collect();
     if comparison.listed.densities == 0 {
         missed.push("number 9 for a density alone".to_string());
     }
-    missed.extend(comparison.floors.missed().chain(comparison.magics.missed()).map(str::to_string));
+    missed.extend(comparison.floors.missed().map(str::to_string));
     let little = counts.cases >= 10_000 && !missed.is_empty();
     if little {
         println!("compare: no case met {}", missed.join(", "));

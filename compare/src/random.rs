@@ -3,7 +3,7 @@
 use crate::case::{Case, OPERATIONS, Operation, Start};
 use crate::made::Made;
 use crate::rules::MOST_STEPS;
-use brothwagon::ffi;
+use brothwagon::{Collision, ffi};
 use source::FLOOR;
 
 /// Each so many cases, one has a large grid.
@@ -11,9 +11,6 @@ const BETWEEN_LARGE: u64 = 1000;
 
 const LARGE: [(u64, u64); 9] =
     [(4096, 256), (256, 4096), (1024, 1024), (4096, 1), (1, 4096), (240, 240), (256, 256), (700, 300), (4095, 255)];
-
-/// The largest that number 3 lets pass: three times the next one is infinite.
-const LARGEST_VISCOSITY: f64 = (f64::MAX / 3.0).next_down();
 
 /// The operations on whole grids, those that write populations first.
 const WHOLE: [Operation; 11] = [
@@ -88,7 +85,7 @@ fn good(made: &mut Made, operation: Operation, (nx, ny): (u64, u64)) -> Case {
     let start = if copying { Start::Bits } else { made.pick(&STARTS) };
     let floor = floor(made, start);
     let nu = viscosity(made);
-    let (collision, magic) = collision(made, nu);
+    let (collision, rate, magic) = collision(made, nu);
     let (fx, fy) = force(made);
     let [x_min, x_max, y_min, y_max] = faces(made, copying);
     let (list, steps) = match operation {
@@ -97,7 +94,8 @@ fn good(made: &mut Made, operation: Operation, (nx, ny): (u64, u64)) -> Case {
     };
     Case {
         operation,
-        settings: ffi::Settings { nx, ny, nu, fx, fy, collision, magic, x_min, x_max, y_min, y_max, floor },
+        settings: ffi::Settings { nx, ny, nu, fx, fy, collision, rate, x_min, x_max, y_min, y_max, floor },
+        magic,
         start,
         seed: made.next(),
         extra: [0; 4],
@@ -128,7 +126,7 @@ fn list(made: &mut Made, nx: u64, ny: u64) -> Vec<ffi::Obstacle> {
 /// One half is the source's, so that its unchanged file is compared with. The rest are any, or one that the start's densities
 /// lie about.
 fn floor(made: &mut Made, start: Start) -> f64 {
-    let any = made.above_zero();
+    let any = f64::from_bits(1 + made.below(f64::MAX.to_bits()));
     let ends = made.pick(&[5e-324, 1e-310, f64::MIN_POSITIVE, 1e-300, 1e300, f64::MAX]);
     let plain = made.pick(&[1e-20, 1e-13, 1e-11, 1e-6, 0.1, 0.5, 1.0, 1.5, 3.0, 1e6]);
     let density = if matches!(start, Start::Dense | Start::DenseBelow) { 1.6e308 } else { 1.0 };
@@ -136,33 +134,30 @@ fn floor(made: &mut Made, start: Start) -> f64 {
     made.pick(&[FLOOR, FLOOR, FLOOR, FLOOR, FLOOR, any, ends, plain, about, about])
 }
 
-/// Mostly a usual one. At the tiny ones 3 ν + 0.5 is 0.5 or just above it, and at the largest of the huge ones it is barely finite.
 fn viscosity(made: &mut Made) -> f64 {
     match made.below(8) {
-        0 => {
-            let tiny = made.pick(&[0.0, -0.0, -1e-20, 5e-324, 1e-300, 1e-17, 4e-17, 1e-16]);
-            let huge = made.pick(&[1e10, 1e16, 1e300, 5e307, LARGEST_VISCOSITY]);
-            made.pick(&[tiny, tiny, huge, 1.0 / 6.0, 0.5])
-        }
+        0 => made.pick(&[0.0, -0.0, -1e-20, 5e-324, 1.0 / 6.0, 0.5, 1e10, 5e307]),
         1 => made.between(0.3, 100.0),
         _ => made.between(0.001, 0.3),
     }
 }
 
-/// The kind, and the magic number: mostly a usual one.
-fn collision(made: &mut Made, nu: f64) -> (u64, f64) {
+/// The kind, the rate that the port is given, and the magic number that it comes from, if one does.
+fn collision(made: &mut Made, nu: f64) -> (u64, f64, Option<f64>) {
     match made.below(5) {
-        // A magic number of another kind than Trt is not looked at.
-        kind @ 0..2 => (kind, made.special()),
+        0 => (0, 0.0, None),
+        1 => (1, 0.0, None),
         2 => {
-            let any = made.above_zero();
-            // Of the size of 1/ω₊ - 0.5, so that the rate is neither 0 nor 2 where the viscosity is tiny or huge.
-            let like = (3.0 * nu * made.between(0.01, 4.0)).clamp(5e-324, 1e308);
-            (2, made.pick(&[any, any, like, like, 5e-324, 1e-308, 1e308, f64::MAX]))
+            let rate = made.between(0.0, 2.0);
+            (2, made.pick(&[rate, rate, rate, rate, 0.0, -0.0, 2.0, 5e-324]), None)
         }
         _ => {
             let magic = made.between(0.01, 1.0);
-            (2, made.pick(&[3.0 / 16.0, 3.0 / 16.0, 0.25, 1.0 / 6.0, 1.0 / 12.0, magic]))
+            let magic = made.pick(&[3.0 / 16.0, 3.0 / 16.0, 0.25, 1.0 / 6.0, 1.0 / 12.0, magic]);
+            match Collision::trt_with_magic(nu, magic) {
+                Collision::Trt(rate) => (2, rate, Some(magic)),
+                _ => unreachable!("a magic number is of Trt"),
+            }
         }
     }
 }
@@ -227,7 +222,7 @@ const FAULTS: [fn(&mut Case, &mut Made); 11] = [
     wrong_sides,
     wrong_length,
     wrong_viscosity,
-    wrong_collision,
+    wrong_rate,
     wrong_floor,
     wrong_force,
     wrong_face,
@@ -251,15 +246,14 @@ fn wrong_length(case: &mut Case, made: &mut Made) {
 }
 
 fn wrong_viscosity(case: &mut Case, made: &mut Made) {
-    case.settings.nu =
-        made.pick(&[f64::NAN, f64::INFINITY, f64::NEG_INFINITY, -0.2, -1e-16, LARGEST_VISCOSITY.next_up(), 1e308]);
+    case.settings.nu = made.pick(&[f64::NAN, f64::INFINITY, f64::NEG_INFINITY, -0.2, -1e-16, 1e308]);
 }
 
-/// Trt with a magic number that is not finite or not above 0, or a kind that is none of the three.
-fn wrong_collision(case: &mut Case, made: &mut Made) {
-    let magic = made.pick(&[f64::NAN, -f64::NAN, f64::INFINITY, f64::NEG_INFINITY, 0.0, -0.0, -5e-324, -1.0]);
-    let kind = made.pick(&[3, (1 << 32) + 2, u64::MAX]);
-    (case.settings.collision, case.settings.magic) = made.pick(&[(2, magic), (2, magic), (kind, 0.25)]);
+fn wrong_rate(case: &mut Case, made: &mut Made) {
+    let above = 2.000_000_000_000_000_4;
+    let wrong = [(2, f64::NAN), (2, f64::INFINITY), (2, -5e-324), (2, above), (3, 1.0), (u64::MAX, 1.0)];
+    (case.settings.collision, case.settings.rate) = made.pick(&wrong);
+    case.magic = None;
 }
 
 fn wrong_floor(case: &mut Case, made: &mut Made) {

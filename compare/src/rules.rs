@@ -66,23 +66,15 @@ fn wrong_floor(floor: f64) -> bool {
     !floor.is_finite() || floor <= 0.0
 }
 
-/// Number 3, of the rates. A kind of collision that is none of the three counts as a Trt without a magic number.
+/// Number 3, of the rates. A kind of collision that is none of the three counts as a Trt without a rate.
 fn wrong_rates(s: &Settings) -> bool {
     let tau = 3.0 * s.nu + 0.5;
-    if !tau.is_finite() || tau < 0.5 {
-        return true;
-    }
-    match s.collision {
-        0 | 1 => false,
-        2 => wrong_magic(s.magic, 1.0 / tau),
-        _ => true,
-    }
-}
-
-/// Number 3, of a magic number beside a good ω₊.
-fn wrong_magic(magic: f64, omega_plus: f64) -> bool {
-    let rate = 1.0 / (magic / (1.0 / omega_plus - 0.5) + 0.5);
-    !magic.is_finite() || magic <= 0.0 || !(0.0..=2.0).contains(&rate)
+    let rate_in_range = match s.collision {
+        0 | 1 => true,
+        2 => (0.0..=2.0).contains(&s.rate),
+        _ => false,
+    };
+    !tau.is_finite() || tau < 0.5 || !rate_in_range
 }
 
 /// Number 5, for one face, with the velocity's component along its inward normal. A kind that is none of the six counts as a

@@ -42,9 +42,8 @@ fn simpler(comparison: &mut Comparison, case: &Case) -> Option<(Case, Difference
     with(&|case| case.settings.fx = 0.0);
     with(&|case| case.settings.fy = 0.0);
     with(&|case| case.settings.floor = FLOOR);
-    with(&|case| case.settings.collision = 0);
-    with(&|case| case.settings.magic = 0.75);
-    with(&|case| case.settings.nu = 0.5);
+    with(&|case| (case.settings.collision, case.settings.rate, case.magic) = (0, 0.0, None));
+    with(&|case| (case.settings.nu, case.magic) = (0.5, None));
     with(&|case| case.start = Start::Flow);
     with(&|case| case.seed = 0);
     with(&|case| case.extra = [0; 4]);

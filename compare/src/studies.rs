@@ -1,6 +1,6 @@
 //! The studies of the repository, from their starts, by the Rust and by the library.
 
-use brothwagon::{Collision, Face, Obstacle, Refusal, StudyFile, ffi, fingerprint};
+use brothwagon::{Face, Obstacle, Refusal, StudyFile, ffi, fingerprint};
 use source::Solver;
 use std::process::ExitCode;
 
@@ -70,18 +70,12 @@ fn run(file: &StudyFile, steps: u64) -> Result<String, String> {
     }
 }
 
-/// The Rust at the study's start. Its collision is the file's own, and not what the host makes of it for the library.
+/// The Rust at the study's start.
 fn by_rust(file: &StudyFile) -> Box<dyn Solver> {
-    let (collision, magic) = match file.settings.collision {
-        Collision::Bgk => (0, 0.0),
-        Collision::Mrt => (1, 0.0),
-        Collision::Trt { magic } => (2, magic),
-    };
-    let settings = ffi::Settings { collision, magic, ..(&file.settings).into() };
     let (nx, ny, start) = (file.settings.nx, file.settings.ny, file.start);
     let table: Vec<f64> = (0..nx * ny).flat_map(|at| start.cell(nx, ny, at % nx, at / nx)).collect();
     let zeros = vec![0.0; 9 * nx * ny];
-    let mut solver = source::solver(&settings, zeros.clone(), zeros);
+    let mut solver = source::solver(&ffi::Settings::from(&file.settings), file.magic, zeros.clone(), zeros);
     solver.initialize(&table);
     solver
 }

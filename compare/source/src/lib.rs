@@ -1,4 +1,4 @@
-//! The Rust that the port carries over, as it stands and with a floor that can be given, behind one set of calls for both copies.
+//! The Rust that the port carries over, as it stands and varied (build.rs says how), behind one set of calls for both copies.
 //! And the levels that the port has, for the two programs that set it against the Rust.
 
 pub mod levels;
@@ -32,24 +32,30 @@ pub trait Solver {
 /// The floor of the unchanged file.
 pub const FLOOR: f64 = 1e-12;
 
-/// The Rust's solver on these settings and buffers: of the unchanged file wherever the floor is its own. The buffers may be
-/// longer than the grid asks for.
-pub fn solver(settings: &ffi::Settings, f: Vec<f64>, post: Vec<f64>) -> Box<dyn Solver> {
-    if settings.floor == FLOOR {
-        return Box::new(d2q9_on(settings, f, post));
+/// The Rust's solver on these settings and buffers: of the unchanged file wherever the floor is its own and a Trt has a magic
+/// number, of the varied one elsewhere. The buffers may be longer than the grid asks for.
+pub fn solver(settings: &ffi::Settings, magic: Option<f64>, f: Vec<f64>, post: Vec<f64>) -> Box<dyn Solver> {
+    let unchanged = |collision, f, post| Box::new(d2q9_on(settings, collision, f, post));
+    match (settings.collision, magic) {
+        _ if settings.floor != FLOOR => varied_solver(settings, f, post),
+        (0, _) => unchanged(CollisionModel::Bgk, f, post),
+        (1, _) => unchanged(CollisionModel::Mrt, f, post),
+        (_, Some(magic)) => unchanged(CollisionModel::Trt { magic }, f, post),
+        (_, None) => varied_solver(settings, f, post),
     }
-    let mut solver = floored_on(settings, f, post);
-    solver.floor = settings.floor;
-    Box::new(solver)
 }
 
-fn collision(settings: &ffi::Settings) -> CollisionModel {
-    match settings.collision {
+/// The varied file's solver. Its Trt goes by the settings' rate: where that comes from a magic number, it has the bits that the
+/// unchanged file works out.
+fn varied_solver(settings: &ffi::Settings, f: Vec<f64>, post: Vec<f64>) -> Box<dyn Solver> {
+    let collision = match settings.collision {
         0 => CollisionModel::Bgk,
         1 => CollisionModel::Mrt,
-        // A kind beyond 2 is refused wherever there is a collision.
-        _ => CollisionModel::Trt { magic: settings.magic },
-    }
+        _ => CollisionModel::Trt { magic: settings.rate },
+    };
+    let mut solver = varied_on(settings, collision, f, post);
+    solver.floor = settings.floor;
+    Box::new(solver)
 }
 
 /// The faces as the Rust has them.
@@ -72,10 +78,10 @@ fn face(face: ffi::Face) -> Boundary<2> {
 
 macro_rules! solver_of {
     ($copy:ident, $on:ident) => {
-        fn $on(settings: &ffi::Settings, f: Vec<f64>, post: Vec<f64>) -> $copy::LatticeBoltzmann2D {
+        fn $on(settings: &ffi::Settings, collision: CollisionModel, f: Vec<f64>, post: Vec<f64>) -> $copy::LatticeBoltzmann2D {
             // Sides of 0 at first, so that nothing is allocated: the buffers are lent.
             let mut solver = $copy::LatticeBoltzmann2D::new(0, 0, settings.nu)
-                .with_collision(collision(settings))
+                .with_collision(collision)
                 .with_force([settings.fx, settings.fy])
                 .with_boundaries(faces(settings));
             (solver.nx, solver.ny) = (settings.nx as usize, settings.ny as usize);
@@ -155,4 +161,4 @@ macro_rules! solver_of {
 }
 
 solver_of!(d2q9, d2q9_on);
-solver_of!(floored, floored_on);
+solver_of!(varied, varied_on);

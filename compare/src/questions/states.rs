@@ -9,9 +9,9 @@ use brothwagon::ffi;
 pub fn settings((nx, ny): (u64, u64)) -> ffi::Settings {
     let none = ffi::Face { kind: 6, a: f64::NAN, b: f64::NAN };
     let [x_min, x_max, y_min, y_max] = [none; 4];
-    let [nu, fx, fy, magic] = [f64::NAN; 4];
+    let [nu, fx, fy, rate] = [f64::NAN; 4];
     let floor = WRONG_FLOORS[nx.wrapping_add(ny) as usize % WRONG_FLOORS.len()];
-    ffi::Settings { nx, ny, nu, fx, fy, collision: 3, magic, x_min, x_max, y_min, y_max, floor }
+    ffi::Settings { nx, ny, nu, fx, fy, collision: 3, rate, x_min, x_max, y_min, y_max, floor }
 }
 
 /// Mostly small; one in so many is larger.

@@ -86,22 +86,18 @@ no_source = nine (λ i. c0)
 unfoldable pub sources_of : Moments → Float → Float → List Float
 sources_of m fx fy = cond (forced_by fx fy) (guo_sources m fx fy) no_source
 
--- ---- the rates, which τ, and for Trt Λ, fix for a whole pass
+-- ---- the rates, which τ fixes for a whole pass
 
 unfoldable pub bgk_rates : Float → BgkRates
 bgk_rates tau =
     let omega = c1 ⊘ tau in
     record { omega = omega; pref = c1 ⊖ c½ ⊗ omega }
 
--- the minus rate of a plus rate and a magic number Λ: 1/(Λ/(1/ω₊ - 0.5) + 0.5)
-unfoldable pub trt_omega_minus : Float → Float → Float
-trt_omega_minus omega magic = c1 ⊘ (magic ⊘ (c1 ⊘ omega ⊖ c½) ⊕ c½)
-
+-- with the minus rate given
 unfoldable pub trt_rates : Float → Float → TrtRates
-trt_rates tau magic =
+trt_rates tau rate =
     let omega = c1 ⊘ tau in
-    let minus = trt_omega_minus omega magic in
-    record { omega_p = omega; omega_m = minus; pref_p = c1 ⊖ c½ ⊗ omega; pref_m = c1 ⊖ c½ ⊗ minus }
+    record { omega_p = omega; omega_m = rate; pref_p = c1 ⊖ c½ ⊗ omega; pref_m = c1 ⊖ c½ ⊗ rate }
 
 unfoldable pub mrt_rates : Float → MrtRates
 mrt_rates tau =
@@ -171,7 +167,7 @@ cell_by collide f fx fy floor = let m = collision_moments f fx fy floor in colli
 unfoldable pub collided_by : Collision → Float → List Float → List Float → List Float → List Float
 collided_by Bgk tau = bgk (bgk_rates tau)
 collided_by Mrt tau = mrt (mrt_rates tau)
-collided_by (Trt magic) tau = trt (trt_rates tau magic)
+collided_by (Trt rate) tau = trt (trt_rates tau rate)
 
 unfoldable pub collided : Collision → List Float → Float → Float → Float → Float → List Float
 collided k f tau fx fy floor = cell_by (collided_by k tau) f fx fy floor

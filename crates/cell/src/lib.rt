@@ -25,7 +25,7 @@ pub struct Moments {
     pub uy: f64,
 }
 
-// The kinds. Trt carries its magic number.
+// The kinds. Trt carries its minus rate.
 #[derive(Drop)]
 pub enum Collision {
     Bgk,

@@ -22,7 +22,7 @@ face_of_kind kind a b =
 
 -- a collision: 0 Bgk, 1 Mrt, 2 Trt; any other is Trt(NaN), which number 3 refuses
 unfoldable pub collision_of_kind : ℕ → Float → Collision
-collision_of_kind kind magic = cond (eqb kind 0) Bgk (cond (eqb kind 1) Mrt (cond (eqb kind 2) (Trt magic) (Trt nan)))
+collision_of_kind kind rate = cond (eqb kind 0) Bgk (cond (eqb kind 1) Mrt (cond (eqb kind 2) (Trt rate) (Trt nan)))
 
 -- word k as a whole number, and as an f64
 abbrev pub word_at : List ℕ → ℕ → ℕ

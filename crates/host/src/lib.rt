@@ -32,8 +32,8 @@ fn face_of_kind(kind: u64, a: f64, b: f64) -> Face
     Face::Pressure(0.0 / 0.0)
 }
 
-fn collision_of_kind(kind: u64, magic: f64) -> Collision
-    ensures { result ≡ collision_of_kind kind magic }
+fn collision_of_kind(kind: u64, rate: f64) -> Collision
+    ensures { result ≡ collision_of_kind kind rate }
 {
     if kind == 0 {
         return Collision::Bgk;
@@ -42,9 +42,9 @@ fn collision_of_kind(kind: u64, magic: f64) -> Collision
         return Collision::Mrt;
     }
     if kind == 2 {
-        return Collision::Trt(magic);
+        return Collision::Trt(rate);
     }
-    // no kind: a magic number that number 3 refuses
+    // no kind: a rate that number 3 refuses
     Collision::Trt(0.0 / 0.0)
 }
 

@@ -39,9 +39,6 @@ c1e_12 = value_of 0x3d71_9799_812d_ea11
 abbrev pub c¼ : Float
 c¼ = value_of 0x3fd0_0000_0000_0000
 
-abbrev pub c¾ : Float
-c¾ = value_of 0x3fe8_0000_0000_0000
-
 -- numbers stand in the table as their patterns
 abbrev pub patterns : List Float → List ℕ
 patterns l = map pattern_of l
@@ -85,8 +82,8 @@ table =
     patterns (m.ux ∷ m.uy ∷ inverse_of m.density c1e_12 ∷ []) is patterns (c0 ∷ c0 ∷ c_1 ∷ []))
     -- C10 BGK, τ 2, f 1, equilibrium 0, source 0: 0.5
     ∷ patterns (bgk (bgk_rates c2) (nine (λ i. c1)) (nine (λ i. c0)) no_source) is patterns (nine (λ i. c½))
-    -- C11 TRT, τ 2, Λ 0.75, f1 = 1, all else 0: entries 1 and 3 both become 0.25
-    ∷ (let f = trt (trt_rates c2 c¾) (only 1 c1) (nine (λ i. c0)) no_source in
+    -- C11 TRT, τ 2, minus rate 1, f1 = 1, all else 0: entries 1 and 3 both become 0.25
+    ∷ (let f = trt (trt_rates c2 c1) (only 1 c1) (nine (λ i. c0)) no_source in
     patterns (at f 1 ∷ at f 3 ∷ []) is patterns (c¼ ∷ c¼ ∷ []))
     ∷ []
 

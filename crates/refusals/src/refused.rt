@@ -75,11 +75,11 @@ fn sides_stepped() {
 // Number 3.
 fn rates() {
     step(b"viscosity NaN", viscous(nan()));
-    step(b"magic number -1", colliding(Collision::Trt(-1.0)));
+    step(b"minus rate -1", colliding(Collision::Trt(-1.0)));
     run(b"viscosity -1", viscous(-1.0), 1);
-    run(b"magic number NaN", colliding(Collision::Trt(nan())), 1);
+    run(b"minus rate NaN", colliding(Collision::Trt(nan())), 1);
     steady(b"viscosity infinite", viscous(infinity()), 0.0, 1);
-    steady(b"magic number 0", colliding(Collision::Trt(0.0)), 0.0, 1);
+    steady(b"minus rate 3", colliding(Collision::Trt(3.0)), 0.0, 1);
 }
 
 // Number 3 of the floor, which readings test too.

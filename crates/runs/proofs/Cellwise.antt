@@ -79,7 +79,7 @@ module _ (s : Settings) (f : List ℕ) where
     unfolding collided_by
     bgk_all kind so w = w ∙ rw (so, time) (all-cells kind)
 
-    pub trt_all : {magic : Float} {rates : TrtRates} → s.collision ≡ Trt magic → rates ≡ trt_rates tau magic → e ≡ passed (trt rates) s.fx s.fy s.floor (s.nx * s.ny) f → e ≡ collided_buffer s f
+    pub trt_all : {rate : Float} {rates : TrtRates} → s.collision ≡ Trt rate → rates ≡ trt_rates tau rate → e ≡ passed (trt rates) s.fx s.fy s.floor (s.nx * s.ny) f → e ≡ collided_buffer s f
     unfolding collided_by
     trt_all kind so w = w ∙ rw (so, time) (all-cells kind)
 

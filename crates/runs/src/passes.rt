@@ -141,12 +141,12 @@ fn collide_bgk(s: Settings, finite: bool, f: &[u64], post: &mut [u64])
     }
 }
 
-fn collide_trt(s: Settings, magic: f64, finite: bool, f: &[u64], post: &mut [u64])
-    requires { (s.collision ≡ Trt magic) × Ready s f.now post.old × Vouched finite f.now }
+fn collide_trt(s: Settings, rate: f64, finite: bool, f: &[u64], post: &mut [u64])
+    requires { (s.collision ≡ Trt rate) × Ready s f.now post.old × Vouched finite f.now }
     ensures { post.new ≡ collided_buffer s f.now }
 {
     let n = s.nx * s.ny;
-    let rates = cell::trt_rates(settings::tau(s.nu), magic);
+    let rates = cell::trt_rates(settings::tau(s.nu), rate);
     if !finite {
         trt_pass_any(n, s.fx, s.fy, s.floor, rates, f, post);
     } else if cell::forced(s.fx, s.fy) {
@@ -174,6 +174,6 @@ pub fn collide(s: Settings, finite: bool, f: &[u64], post: &mut [u64])
     match k {
         Collision::Bgk => collide_bgk(s, finite, f, post),
         Collision::Mrt => collide_mrt(s, f, post),
-        Collision::Trt(magic) => collide_trt(s, magic, finite, f, post),
+        Collision::Trt(rate) => collide_trt(s, rate, finite, f, post),
     }
 }

@@ -11,7 +11,6 @@ use Rattle.lattice.specs.declared.Side.TheVariants.{Min, Max}
 use Rattle.lattice.specs.Sides.{normal, along}
 use Rattle.cell.specs.declared.Collision.{Collision}
 use Rattle.cell.specs.declared.Collision.TheVariants.{Bgk, Mrt, Trt}
-use Rattle.cell.specs.Cell.{trt_rates}
 use Rattle.grid.specs.Grid.{most_side, most_cells}
 use Rattle.sums.specs.Sums.{sum, wrapped}
 use Rattle.settings.specs.declared.Face.{Face}
@@ -41,8 +40,7 @@ bytes_bad nx ny head len = not (eqb len (head + 72 * (nx * ny)))
 unfoldable pub size_bad : ℕ → ℕ → Bool
 size_bad size len = not (eqb len size)
 
--- ---- 3: τ = 3.0·ν + 0.5 is not finite or below 0.5; or, for Trt, Λ is not finite or not above 0, or the resulting rate is not
--- finite, below 0 or above 2
+-- ---- 3: τ = 3.0·ν + 0.5 is not finite or below 0.5; or a Trt minus rate is not finite, below 0 or above 2
 
 abbrev pub tau_of : Float → Float
 tau_of nu = c3 ⊗ nu ⊕ c½
@@ -50,20 +48,17 @@ tau_of nu = c3 ⊗ nu ⊕ c½
 unfoldable pub tau_bad : Float → Bool
 tau_bad tau = not_finite tau || lt tau c½
 
+unfoldable pub rate_bad : Collision → Bool
+rate_bad Bgk = false
+rate_bad Mrt = false
+rate_bad (Trt rate) = not_finite rate || lt rate c0 || lt c2 rate
+
+unfoldable pub rates_bad : Settings → Bool
+rates_bad s = tau_bad (tau_of s.nu) || rate_bad s.collision
+
 -- not finite, or not above 0
 unfoldable pub not_positive : Float → Bool
 not_positive x = not_finite x || not (lt c0 x)
-
-unfoldable pub rate_bad : Float → Bool
-rate_bad rate = not_finite rate || lt rate c0 || lt c2 rate
-
-unfoldable pub magic_bad : Float → Collision → Bool
-magic_bad tau Bgk = false
-magic_bad tau Mrt = false
-magic_bad tau (Trt magic) = not_positive magic || rate_bad (trt_rates tau magic).omega_m
-
-unfoldable pub rates_bad : Settings → Bool
-rates_bad s = let tau = tau_of s.nu in tau_bad tau || magic_bad tau s.collision
 
 -- or the floor is not positive: a test of its own, since readings make it and test no rate
 abbrev pub floor_bad : Settings → Bool

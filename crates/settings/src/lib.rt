@@ -1,7 +1,7 @@
 // The settings of a study, the tests of what an operation is given, and the number that refuses it.
 ghost use Rattle.std.specs.Prelude.{◌≡◌, cond, [], ◌∷◌, ◌≤◌};
 ghost use Rattle.settings.specs.Tests as Tests;
-ghost use Rattle.settings.specs.Tests.{side_bad, sides_bad, length_bad, bytes_bad, tau_of, tau_bad, not_positive, rate_bad, magic_bad, face_bad, is_periodic, is_symmetry, count_bad, tally_count_bad, sums_bad};
+ghost use Rattle.settings.specs.Tests.{side_bad, sides_bad, length_bad, bytes_bad, tau_of, tau_bad, rate_bad, not_positive, face_bad, is_periodic, is_symmetry, count_bad, tally_count_bad, sums_bad};
 ghost use Rattle.settings.specs.Refusals as Refusals;
 ghost use Rattle.settings.specs.Refusals.{first, refusal};
 
@@ -110,31 +110,21 @@ fn tau_bad(tau: f64) -> bool
     number::not_finite(tau) | (tau < 0.5)
 }
 
+fn rate_bad(collision: Collision) -> bool
+    ensures { result ≡ rate_bad collision }
+{
+    match collision {
+        Collision::Bgk => false,
+        Collision::Mrt => false,
+        Collision::Trt(rate) => number::not_finite(rate) | (rate < 0.0) | (2.0 < rate),
+    }
+}
+
 // Whether a number is not finite, or not above 0.
 fn not_positive(x: f64) -> bool
     ensures { result ≡ not_positive x }
 {
     number::not_finite(x) | !(0.0 < x)
-}
-
-fn rate_bad(rate: f64) -> bool
-    ensures { result ≡ rate_bad rate }
-{
-    number::not_finite(rate) | (rate < 0.0) | (2.0 < rate)
-}
-
-// Whether the magic number of a Trt, or the minus rate that it gives, is bad.
-fn magic_bad(tau: f64, collision: Collision) -> bool
-    ensures { result ≡ magic_bad tau collision }
-{
-    match collision {
-        Collision::Bgk => false,
-        Collision::Mrt => false,
-        Collision::Trt(magic) => {
-            let rates = cell::trt_rates(tau, magic);
-            not_positive(magic) | rate_bad(rates.omega_m)
-        }
-    }
 }
 
 // Whether a face's own numbers are bad.
@@ -257,8 +247,7 @@ fn rates(s: Settings, later: u32) -> u32
     ensures { result ≡ first (Refusals.rates s ∷ []) later }
 {
     let collision = s.collision;
-    let tau = tau(s.nu);
-    number_if(tau_bad(tau) | magic_bad(tau, collision), 3, later)
+    number_if(tau_bad(tau(s.nu)) | rate_bad(collision), 3, later)
 }
 
 fn floor(s: Settings, later: u32) -> u32

@@ -29,8 +29,8 @@ fn show_bgk(f: [f64; 9], tau: f64, fx: f64, fy: f64) {
     }
 }
 
-fn show_trt(f: [f64; 9], tau: f64, magic: f64, fx: f64, fy: f64) {
-    let rates = cell::trt_rates(tau, magic);
+fn show_trt(f: [f64; 9], tau: f64, rate: f64, fx: f64, fy: f64) {
+    let rates = cell::trt_rates(tau, rate);
     let any = cell::trt_cell_any(f, fx, fy, FLOOR, rates);
     if cell::forced(fx, fy) {
         show_both(any, cell::trt_cell_forced(f, fx, fy, FLOOR, rates));
@@ -54,13 +54,13 @@ pub fn one(k: u64, x: u64) -> u64 {
     let x3 = made::shifted(x2);
     let x4 = made::shifted(x3);
     let tau = made::number(mode, x1);
-    let magic = made::number(mode, x2);
+    let rate = made::number(mode, x2);
     let fx = studies::wanted(force % 2 == 1, made::number(mode, x3));
     let fy = studies::wanted(2 <= force, made::number(mode, x4));
     if k < 36 {
         show_bgk(f, tau, fx, fy);
     } else if k < 72 {
-        show_trt(f, tau, magic, fx, fy);
+        show_trt(f, tau, rate, fx, fy);
     } else {
         show_mrt(f, tau, fx, fy);
     }

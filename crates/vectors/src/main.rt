@@ -3,7 +3,6 @@ mod cells;
 mod floors;
 mod grids;
 mod made;
-mod magics;
 mod replays;
 mod show;
 mod steadies;
@@ -46,12 +45,11 @@ fn all_runs(x: u64) -> u64 {
 }
 
 // The same to a steady state, on grids of three sizes, and those ruined ones that the Rust calls settled.
-fn all_steadies(x: u64) -> u64 {
+fn all_steadies(x: u64) {
     let x = steadies::all(1, 1, x, &mut [0; 9], &mut [0; 9], &mut [0; 2]);
     let x = steadies::all(2, 3, x, &mut [0; 54], &mut [0; 54], &mut [0; 12]);
-    let x = steadies::all(4, 4, x, &mut [0; 144], &mut [0; 144], &mut [0; 32]);
+    steadies::all(4, 4, x, &mut [0; 144], &mut [0; 144], &mut [0; 32]);
     steadies::all_ruined();
-    x
 }
 
 fn main() {
@@ -59,7 +57,6 @@ fn main() {
     let x = all_readings(x);
     let x = all_streams(x);
     let x = all_runs(x);
-    let x = all_steadies(x);
+    all_steadies(x);
     floors::all();
-    magics::all(x);
 }

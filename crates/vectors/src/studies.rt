@@ -7,12 +7,12 @@ use settings::{Face, Settings};
 pub const FLOOR: f64 = 1e-12;
 
 // A collision of the kind 0 to 2.
-pub fn collision(kind: u64, magic: f64) -> Collision {
+pub fn collision(kind: u64, rate: f64) -> Collision {
     if kind == 0 {
         return Collision::Bgk;
     }
     if kind == 1 {
-        return Collision::Trt(magic);
+        return Collision::Trt(rate);
     }
     Collision::Mrt
 }
@@ -89,11 +89,11 @@ pub fn bounded(s: Settings, k: u64, l: u64, shift: u64, x: u64) -> Settings {
 pub fn drawn(nx: usize, ny: usize, q: u64, x: u64) -> Settings {
     let c = made::past(1, x);
     let nu = made::number(0, made::past(2, x)) / 10.0;
-    let magic = made::number(0, made::past(3, x));
+    let rate = made::number(0, made::past(3, x));
     let force = (c >> 8) % 4;
     let fx = wanted(force % 2 == 1, made::number(0, made::past(4, x)) / 100.0);
     let fy = wanted(2 <= force, made::number(0, made::past(5, x)) / 100.0);
-    let s = periodic(nx, ny, nu, fx, fy, collision(q % 3, magic));
+    let s = periodic(nx, ny, nu, fx, fy, collision(q % 3, rate));
     bounded(s, q / 3 % 6, q / 18, c % 6, made::past(5, x))
 }
 

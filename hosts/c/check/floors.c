@@ -90,7 +90,7 @@ static void step_at_rest(const char *name, uint64_t collision, double left) {
         wanted[F][i] = wanted[POST][i] = rest[i] + left * along_x[i];
     }
     call.settings.collision = collision;
-    call.settings.magic = 0.75;
+    call.settings.rate = 1.0;
     call.settings.floor = 37.0;
     done(&STEP, &call);
 }
@@ -102,7 +102,7 @@ void check_floors(void) {
         steps(FLOORS[k], 0.0);
         steps(FLOORS[k], FLOORS[k]);
     }
-    /* With tau 2, Bgk relaxes it by half; Trt's 0.75 gives it the rate 1; Mrt relaxes no momentum. */
+    /* With tau 2, Bgk relaxes it by half; Trt has the rate 1; Mrt relaxes no momentum. */
     step_at_rest("Bgk", BROTHWAGON_BGK, 0.5);
     step_at_rest("Trt", BROTHWAGON_TRT, 0.0);
     step_at_rest("Mrt", BROTHWAGON_MRT, 1.0);

@@ -23,7 +23,7 @@ WORD(brothwagon_settings, nu, 2);
 WORD(brothwagon_settings, fx, 3);
 WORD(brothwagon_settings, fy, 4);
 WORD(brothwagon_settings, collision, 5);
-WORD(brothwagon_settings, magic, 6);
+WORD(brothwagon_settings, rate, 6);
 WORD(brothwagon_settings, x_min, 7);
 WORD(brothwagon_settings, x_max, 10);
 WORD(brothwagon_settings, y_min, 13);
@@ -49,8 +49,8 @@ void fields_have_types(brothwagon_face *face, brothwagon_settings *settings, bro
 
 void fields_have_types(brothwagon_face *face, brothwagon_settings *settings, brothwagon_obstacle *obstacle) {
     uint64_t *const words[] = {&face->kind, &settings->nx, &settings->ny, &settings->collision, &obstacle->x, &obstacle->y};
-    double *const numbers[] = {&face->a,      &face->b,         &settings->nu,   &settings->fx,
-                               &settings->fy, &settings->magic, &settings->floor};
+    double *const numbers[] = {&face->a,      &face->b,        &settings->nu,   &settings->fx,
+                               &settings->fy, &settings->rate, &settings->floor};
     brothwagon_face *const faces[] = {&settings->x_min, &settings->x_max, &settings->y_min, &settings->y_max};
     (void)words, (void)numbers, (void)faces;
 }

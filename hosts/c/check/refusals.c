@@ -32,33 +32,25 @@ static int rates(Call *call, size_t k) {
     static const struct {
         double nu;
         uint64_t collision;
-        double magic;
-    } rows[] = {{NAN, BROTHWAGON_BGK, 0.0},     {INFINITY, BROTHWAGON_BGK, 0.0},      {-INFINITY, BROTHWAGON_MRT, 0.0},
-                {-1.0, BROTHWAGON_MRT, 0.0},    {-1e-16, BROTHWAGON_BGK, 0.0},        {1e308, BROTHWAGON_BGK, 0.0},
-                {NAN, BROTHWAGON_TRT, 0.75},    {INFINITY, BROTHWAGON_TRT, 0.75},     {-1.0, BROTHWAGON_TRT, 0.75},
-                {-1e-16, BROTHWAGON_TRT, 0.75}, {1e308, BROTHWAGON_TRT, 0.75},        {0.5, BROTHWAGON_TRT + 1, 0.75},
-                {0.5, UINT64_MAX, 0.75},        {0.5, (UINT64_C(1) << 32) + 2, 0.75}, {0.5, UINT64_C(1) << 32, 0.75}};
+        double rate;
+    } rows[] = {{NAN, BROTHWAGON_BGK, 0.0},     {INFINITY, BROTHWAGON_BGK, 0.0}, {-INFINITY, BROTHWAGON_MRT, 0.0},
+                {-1.0, BROTHWAGON_MRT, 0.0},    {-1e-16, BROTHWAGON_BGK, 0.0},   {1e308, BROTHWAGON_BGK, 0.0},
+                {-1.0, BROTHWAGON_TRT, 1.0},    {0.5, BROTHWAGON_TRT, NAN},      {0.5, BROTHWAGON_TRT, INFINITY},
+                {0.5, BROTHWAGON_TRT, -0.5},    {0.5, BROTHWAGON_TRT, 2.5},      {0.5, BROTHWAGON_TRT, 2.0000000000000004},
+                {0.5, BROTHWAGON_TRT + 1, 1.0}, {0.5, UINT64_MAX, 1.0}};
     if (k < COUNT(rows)) {
         call->settings.nu = rows[k].nu;
         call->settings.collision = rows[k].collision;
-        call->settings.magic = rows[k].magic;
+        call->settings.rate = rows[k].rate;
     }
     return k < COUNT(rows);
 }
 
-static int magic_numbers(Call *call, size_t k) {
-    if (k < COUNT(NOT_ABOVE_0)) {
-        call->settings.collision = BROTHWAGON_TRT;
-        call->settings.magic = NOT_ABOVE_0[k];
-    }
-    return k < COUNT(NOT_ABOVE_0);
-}
-
 static int floors(Call *call, size_t k) {
-    if (k < COUNT(NOT_ABOVE_0)) {
-        call->settings.floor = NOT_ABOVE_0[k];
+    if (k < COUNT(BAD_FLOORS)) {
+        call->settings.floor = BAD_FLOORS[k];
     }
-    return k < COUNT(NOT_ABOVE_0);
+    return k < COUNT(BAD_FLOORS);
 }
 
 static int force(Call *call, size_t k) {
@@ -262,12 +254,10 @@ typedef struct {
 } Fault;
 
 /* In the order in which the numbers are tested; and in that of a checkpoint file, and of a tally's. */
-static const Fault FAULTS[] = {{1, "the sides", sides},           {2, "the lengths", lengths},
-                               {3, "the rates", rates},           {3, "the magic number", magic_numbers},
-                               {3, "the floor", floors},          {4, "the force", force},
-                               {5, "the faces", face_numbers},    {10, "the steps", steps},
-                               {6, "the place", places},          {16, "the order", orders},
-                               {7, "driven faces", driven_faces}, {8, "lossy faces", lossy_faces}};
+static const Fault FAULTS[] = {
+    {1, "the sides", sides},    {2, "the lengths", lengths},       {3, "the rates", rates},          {3, "the floor", floors},
+    {4, "the force", force},    {5, "the faces", face_numbers},    {10, "the steps", steps},         {6, "the place", places},
+    {16, "the order", orders},  {7, "driven faces", driven_faces}, {8, "lossy faces", lossy_faces}};
 
 static const Fault CHECKPOINT_FAULTS[] = {{12, "a file's first bytes", no_version},        {13, "its version", version},
                                           {14, "the bytes of its sides", sides_cut_short}, {1, "its sides", sides_of_file},
@@ -279,9 +269,9 @@ static const Fault TALLY_FAULTS[] = {{12, "a file's first bytes", no_version},
                                      {17, "the sums", sums},
                                      {2, "the lengths", lengths}};
 
-/* Where there is no collision, number 3 stands for the floor alone. */
+/* The rates are tested only where there is a collision. */
 static int tests_fault(const Operation *operation, const Fault *fault) {
-    return tests_for(operation, fault->number) && (fault->number != 3 || fault->make == floors || collides(operation));
+    return tests_for(operation, fault->number) && (fault->make != rates || collides(operation));
 }
 
 static int is_fault(const Operation *operation, const Fault *fault, size_t k) {

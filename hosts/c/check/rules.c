@@ -10,17 +10,6 @@ const double W[DIRECTIONS] = {4.0 / 9.0,  1.0 / 9.0,  1.0 / 9.0,  1.0 / 9.0, 1.0
 
 size_t cells_of(const brothwagon_settings *s) { return s->nx * s->ny; }
 
-/* The direction with these components. */
-static size_t direction_of(int ex, int ey) {
-    size_t i = 0;
-    while (E[i][0] != ex || E[i][1] != ey) {
-        i++;
-    }
-    return i;
-}
-
-static size_t opposite_of(size_t i) { return direction_of(-E[i][0], -E[i][1]); }
-
 /* e·u */
 static double along(size_t i, double x, double y) { return E[i][0] * x + E[i][1] * y; }
 
@@ -91,45 +80,28 @@ void tally_of(const brothwagon_settings *s, const double *f, uint64_t tally[TALL
     }
 }
 
-/* What a cell collides: its populations, their equilibrium, and Guo's source. */
-typedef struct {
-    double f[DIRECTIONS], equal[DIRECTIONS], source[DIRECTIONS];
-} Cell;
-
-static double bgk(const Cell *cell, double omega, size_t i) {
-    return cell->f[i] - omega * (cell->f[i] - cell->equal[i]) + (1.0 - 0.5 * omega) * cell->source[i];
-}
-
-/* The minus rate, of the rounded plus rate. */
-static double minus_rate(double plus, double magic) { return 1.0 / (magic / (1.0 / plus - 0.5) + 0.5); }
-
-static double trt(const Cell *cell, double plus, double minus, size_t i) {
-    const size_t o = opposite_of(i);
-    const double off = cell->f[i] - cell->equal[i], other = cell->f[o] - cell->equal[o];
-    const double even = 0.5 * (cell->source[i] + cell->source[o]), odd = 0.5 * (cell->source[i] - cell->source[o]);
-    return cell->f[i] - plus * (0.5 * (off + other)) - minus * (0.5 * (off - other)) + (1.0 - 0.5 * plus) * even +
-           (1.0 - 0.5 * minus) * odd;
-}
-
 static void collide(const brothwagon_settings *s, const double *f, double *post, size_t c) {
     const double omega = 1.0 / (3.0 * s->nu + 0.5), rho = density_of(s, f, c);
     const double inverse = fabs(rho) < s->floor ? 0.0 : 1.0 / rho;
     const double ux = momentum_of(s, f, c, 0) * inverse, uy = momentum_of(s, f, c, 1) * inverse;
     const int forced = s->fx != 0.0 || s->fy != 0.0;
-    Cell cell;
     for (size_t i = 0; i < DIRECTIONS; i++) {
-        cell.f[i] = f[c + i * cells_of(s)];
-        cell.equal[i] = equilibrium(i, rho, ux, uy);
-        cell.source[i] = forced ? guo_source(s, i, ux, uy) : 0.0;
-    }
-    for (size_t i = 0; i < DIRECTIONS; i++) {
-        post[c + i * cells_of(s)] =
-            s->collision == BROTHWAGON_TRT ? trt(&cell, omega, minus_rate(omega, s->magic), i) : bgk(&cell, omega, i);
+        const double was = f[c + i * cells_of(s)], source = forced ? guo_source(s, i, ux, uy) : 0.0;
+        post[c + i * cells_of(s)] = was - omega * (was - equilibrium(i, rho, ux, uy)) + (1.0 - 0.5 * omega) * source;
     }
 }
 
 /* A copied entry keeps all its bits. */
 static void copy(double *to, const double *from) { memcpy(to, from, sizeof *to); }
+
+/* The direction with these components. */
+static size_t direction_of(int ex, int ey) {
+    size_t i = 0;
+    while (E[i][0] != ex || E[i][1] != ey) {
+        i++;
+    }
+    return i;
+}
 
 /* A face, the axis that it stands on, x (0) or y (1), and its inward normal's component on that. */
 typedef struct {
@@ -139,8 +111,9 @@ typedef struct {
 
 /* Direction i of cell c at a face takes what the same cell has in post. */
 static void take(const brothwagon_settings *s, Side side, const double *post, double *f, size_t c, size_t i) {
+    const size_t opposite = direction_of(-E[i][0], -E[i][1]);
     const size_t mirrored = side.axis == 0 ? direction_of(-E[i][0], E[i][1]) : direction_of(E[i][0], -E[i][1]);
-    const size_t from = side.what.kind == BROTHWAGON_SYMMETRY ? mirrored : opposite_of(i);
+    const size_t from = side.what.kind == BROTHWAGON_SYMMETRY ? mirrored : opposite;
     double *to = &f[c + i * cells_of(s)];
     copy(to, &post[c + from * cells_of(s)]);
     if (side.what.kind == BROTHWAGON_MOVING_WALL && (side.what.a != 0.0 || side.what.b != 0.0)) {
@@ -176,7 +149,7 @@ void stream(const brothwagon_settings *s, const double *post, double *f) {
 
 void throw_back(const brothwagon_settings *s, const double *before, double *f, size_t c) {
     for (size_t i = 0; i < DIRECTIONS; i++) {
-        copy(&f[c + opposite_of(i) * cells_of(s)], &before[c + i * cells_of(s)]);
+        copy(&f[c + direction_of(-E[i][0], -E[i][1]) * cells_of(s)], &before[c + i * cells_of(s)]);
     }
 }
 

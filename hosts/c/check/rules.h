@@ -1,4 +1,4 @@
-/* A plain reading of the rules, apart from the port: what the buffers and answers of a call must be. For Bgk and Trt, and for
+/* A plain reading of the rules, apart from the port: what the buffers and answers of a call must be. For Bgk, and for
  * Periodic, NoSlip, MovingWall and Symmetry faces; the other kinds are held to cases worked out by hand.
  *
  * Cell (x, y) is c = x + y nx, and its entry i stands at c + i nx ny. Ascending, c visits y outer and x inner. */

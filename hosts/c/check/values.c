@@ -5,7 +5,7 @@
 
 const uint64_t MADE_NAN = UINT64_C(0x7ff8000000000000);
 
-const double NOT_ABOVE_0[8] = {NAN, -NAN, INFINITY, -INFINITY, 0.0, -0.0, -1e-12, -5e-324};
+const double BAD_FLOORS[8] = {NAN, -NAN, INFINITY, -INFINITY, 0.0, -0.0, -1e-12, -5e-324};
 
 void done(const Operation *operation, const Call *call) {
     const brothwagon_face bad = {BROTHWAGON_MOVING_WALL, NAN, NAN};
@@ -15,9 +15,6 @@ void done(const Operation *operation, const Call *call) {
         other.settings.nu = NAN;
         other.settings.collision = UINT64_MAX;
     }
-    if (!collides(operation) || call->settings.collision != BROTHWAGON_TRT) {
-        other.settings.magic = NAN;
-    }
     if (!tests_for(operation, 4)) {
         other.settings.fx = other.settings.fy = NAN;
     }
@@ -25,8 +22,8 @@ void done(const Operation *operation, const Call *call) {
         other.settings.x_min = other.settings.x_max = other.settings.y_min = other.settings.y_max = bad;
     }
     check(operation, &other, 0);
-    for (size_t k = 0; !tests_for(operation, 3) && k < COUNT(NOT_ABOVE_0); k++) {
-        other.settings.floor = NOT_ABOVE_0[k];
+    for (size_t k = 0; !tests_for(operation, 3) && k < COUNT(BAD_FLOORS); k++) {
+        other.settings.floor = BAD_FLOORS[k];
         check(operation, &other, 0);
     }
 }

@@ -11,8 +11,8 @@ extern const uint64_t MADE_NAN;
 /* The kinds of faces that carry no number. */
 enum { P = BROTHWAGON_PERIODIC, N = BROTHWAGON_NO_SLIP, S = BROTHWAGON_SYMMETRY };
 
-/* What no floor can be, nor a magic number: not finite, or not above 0. */
-extern const double NOT_ABOVE_0[8];
+/* What no floor can be: not finite, or not above 0. */
+extern const double BAD_FLOORS[8];
 
 /* The call is done, however what it does not take is spoiled. */
 void done(const Operation *operation, const Call *call);

@@ -30,8 +30,8 @@ pub struct Settings {
     pub fy: f64,
     /// 0 Bgk, 1 Mrt, 2 Trt; any other is refused with 3 where there is a collision.
     pub collision: u64,
-    /// The magic number, of Trt alone.
-    pub magic: f64,
+    /// The minus rate, of Trt alone.
+    pub rate: f64,
     pub x_min: Face,
     pub x_max: Face,
     pub y_min: Face,
@@ -53,7 +53,7 @@ impl Default for Settings {
             fx: 0.0,
             fy: 0.0,
             collision: 0,
-            magic: 0.0,
+            rate: 0.0,
             x_min: face,
             x_max: face,
             y_min: face,

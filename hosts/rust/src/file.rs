@@ -8,6 +8,8 @@ use std::fmt;
 pub struct StudyFile {
     /// The settings.
     pub settings: Settings,
+    /// The magic number that the settings' Trt rate was worked out from, if it was.
+    pub magic: Option<f64>,
     /// The cells that obstacles fill, ascending by x + y·nx; none if no grid has the sides.
     pub obstacles: Vec<Obstacle>,
     /// What the populations start from.
@@ -52,13 +54,19 @@ const NAMES: &str = "sides, viscosity, force, collision, floor, x-min, x-max, y-
 
 const FACE: &str = "periodic, no-slip, moving-wall UX UY, symmetry, velocity UX UY or pressure DENSITY";
 
+/// A Trt rate may be given by a magic number, which asks for the viscosity, on whatever line it stands.
+enum Rates {
+    Given(Collision),
+    Magic(f64),
+}
+
 /// What has been read so far.
 #[derive(Default)]
 struct Draft {
     sides: Option<(usize, usize)>,
     viscosity: Option<f64>,
     force: Option<(f64, f64)>,
-    collision: Option<Collision>,
+    collision: Option<Rates>,
     floor: Option<f64>,
     x_min: Option<Face>,
     x_max: Option<Face>,
@@ -131,7 +139,9 @@ impl Draft {
             "sides" => once(&mut self.sides, pair(values, whole), name, "sides NX NY, two whole numbers"),
             "viscosity" => once(&mut self.viscosity, single(values, number), name, "viscosity NUMBER"),
             "force" => once(&mut self.force, pair(values, number), name, "force FX FY"),
-            "collision" => once(&mut self.collision, collision(values), name, expected_collision(values)),
+            "collision" => {
+                once(&mut self.collision, collision(values), name, "collision bgk, mrt, trt RATE or trt magic NUMBER")
+            }
             "floor" => once(&mut self.floor, single(values, number), name, "floor NUMBER"),
             "x-min" => once(&mut self.x_min, face(values), name, &format!("x-min {FACE}")),
             "x-max" => once(&mut self.x_max, face(values), name, &format!("x-max {FACE}")),
@@ -158,6 +168,10 @@ impl Draft {
         let (nx, ny) = self.sides.ok_or("sides NX NY")?;
         let nu = self.viscosity.ok_or("viscosity NUMBER")?;
         let (fx, fy) = self.force.unwrap_or((0.0, 0.0));
+        let (collision, magic) = match self.collision.unwrap_or(Rates::Magic(MAGIC_BOUNCE_BACK)) {
+            Rates::Given(collision) => (collision, None),
+            Rates::Magic(magic) => (Collision::trt_with_magic(nu, magic), Some(magic)),
+        };
         let (tolerance, check_every) = self.steady.unwrap_or((1e-9, 100));
         Ok(StudyFile {
             settings: Settings {
@@ -166,13 +180,14 @@ impl Draft {
                 nu,
                 fx,
                 fy,
-                collision: self.collision.unwrap_or(Collision::Trt { magic: MAGIC_BOUNCE_BACK }),
+                collision,
                 x_min: self.x_min.unwrap_or_default(),
                 x_max: self.x_max.unwrap_or_default(),
                 y_min: self.y_min.unwrap_or_default(),
                 y_max: self.y_max.unwrap_or_default(),
                 floor: self.floor.unwrap_or(FLOOR),
             },
+            magic,
             obstacles,
             start: self.start.unwrap_or(Start::Uniform(1.0, 0.0, 0.0)),
             steps: self.steps.ok_or("steps NUMBER")?,
@@ -213,24 +228,14 @@ fn number(word: &str) -> Option<f64> {
     StudyFile::number(word)
 }
 
-fn collision(words: &[&str]) -> Option<Collision> {
+fn collision(words: &[&str]) -> Option<Rates> {
     Some(match words {
-        ["bgk"] => Collision::Bgk,
-        ["mrt"] => Collision::Mrt,
-        ["trt", "magic", magic] => Collision::Trt { magic: number(magic)? },
+        ["bgk"] => Rates::Given(Collision::Bgk),
+        ["mrt"] => Rates::Given(Collision::Mrt),
+        ["trt", rate] => Rates::Given(Collision::Trt(number(rate)?)),
+        ["trt", "magic", magic] => Rates::Magic(number(magic)?),
         _ => return None,
     })
-}
-
-/// What a collision line should say. `trt NUMBER` once gave the minus rate: taken for a magic number, it would change the flow.
-fn expected_collision(words: &[&str]) -> &'static str {
-    match words {
-        ["trt", rate] if number(rate).is_some() => {
-            "collision trt magic NUMBER (a minus rate is no longer taken: for RATE between 0 and 2, NUMBER is \
-             3·viscosity·(1/RATE - 0.5), and for 2 it is 1e-300)"
-        }
-        _ => "collision bgk, mrt or trt magic NUMBER",
-    }
 }
 
 fn face(words: &[&str]) -> Option<Face> {
@@ -295,12 +300,11 @@ mod tests {
 
     #[test]
     fn everything_can_be_said() {
-        let text = "# all of it\ncollision trt magic 1/4 # not 3/16\nforce 1e-5 0\nx-min velocity 0.1 0\n\
+        let text = "# all of it\ncollision trt magic 3/16 # before the viscosity\nforce 1e-5 0\nx-min velocity 0.1 0\n\
                     x-max pressure 1\ny-min no-slip\ny-max moving-wall -0.1 0\nfloor 1e-20\nstart shear 1 0.1 0.01\nsteady 1/8 7\n";
         let study = StudyFile::read(&format!("{text}{SHORT}")).unwrap();
         let expected = Settings {
             fx: 1e-5,
-            collision: Collision::Trt { magic: 0.25 },
             x_min: Face::Velocity(0.1, 0.0),
             x_max: Face::Pressure(1.0),
             y_min: Face::NoSlip,
@@ -314,38 +318,9 @@ mod tests {
     }
 
     #[test]
-    fn a_magic_number_may_be_any_number_once() {
-        let collision = |text: &str| StudyFile::read(&format!("{SHORT}{text}")).unwrap().settings.collision;
-        assert_eq!(collision(""), Collision::Trt { magic: 0.1875 });
-        assert_eq!(collision("collision bgk"), Collision::Bgk);
-        assert_eq!(collision("collision mrt"), Collision::Mrt);
-        // 3/10 is 0.3 if it is rounded once.
-        for (word, magic) in [("1/4", 0.25), ("3/10", 0.3), ("2.5", 2.5), ("5e-324", f64::from_bits(1)), ("1e308", 1e308)] {
-            assert_eq!(collision(&format!("collision trt magic {word} # a comment")), Collision::Trt { magic });
-        }
-        // Whether it can be one is the library's to say.
-        assert_eq!(collision("collision trt magic -1"), Collision::Trt { magic: -1.0 });
-        assert!(matches!(collision("collision trt magic nan"), Collision::Trt { magic } if magic.is_nan()));
-        let twice = wrong(&format!("{SHORT}collision trt magic 1/4\ncollision trt 1.25"));
-        assert_eq!(twice, "line 5: expected no second line `collision`, found `collision trt 1.25`");
-    }
-
-    #[test]
-    fn a_minus_rate_is_not_taken_for_a_magic_number() {
-        for word in ["1.25", "8/7", "0", "2", "2.5", "-1", "nan"] {
-            let expected = "collision trt magic NUMBER (a minus rate is no longer taken: for RATE between 0 and 2, NUMBER is \
-                            3·viscosity·(1/RATE - 0.5), and for 2 it is 1e-300)";
-            let said = wrong(&format!("{SHORT}collision trt {word} # a comment"));
-            assert_eq!(said, format!("line 4: expected {expected}, found `collision trt {word}`"));
-        }
-        for kind in
-            ["", "trt", "trt magic", "trt magic low", "trt magic 1 2", "trt low", "trt 1 2", "trt 1 magic", "bgk 1", "magic 1"]
-        {
-            let line = format!("collision {kind}");
-            let said = wrong(&format!("{SHORT}{line}"));
-            let expected = "collision bgk, mrt or trt magic NUMBER";
-            assert_eq!(said, format!("line 4: expected {expected}, found `{}`", line.trim()));
-        }
+    fn a_rate_may_be_given_as_it_is() {
+        assert_eq!(StudyFile::read(&format!("{SHORT}collision trt 1.25")).unwrap().settings.collision, Collision::Trt(1.25));
+        assert_eq!(StudyFile::read(&format!("{SHORT}collision bgk")).unwrap().settings.collision, Collision::Bgk);
     }
 
     #[test]

@@ -57,6 +57,6 @@ pub use file::{Start, StudyFile, Wrong};
 pub use fingerprint::fingerprint;
 pub use level::level;
 pub use refusal::Refusal;
-pub use settings::{Collision, FLOOR, Face, MAGIC_BOUNCE_BACK, Settings};
+pub use settings::{Collision, FLOOR, Face, MAGIC_BOUNCE_BACK, Settings, trt_omega_minus};
 pub use study::{BadCell, Lossless, OtherSides, Steady, Study};
 pub use tally::Tally;

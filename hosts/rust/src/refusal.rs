@@ -8,8 +8,8 @@ pub enum Refusal {
     Sides,
     /// 2: a lent buffer has the wrong length.
     Length,
-    /// 3: the relaxation time, or Trt's magic number or the resulting rate, is outside its range; or the floor is not
-    /// finite or not above 0. Readings of velocities and of the kinetic energy test the floor alone.
+    /// 3: the relaxation time or a Trt minus rate is outside its range, or the floor is not finite or not above 0.
+    /// Readings of velocities and of the kinetic energy test the floor alone.
     Rate,
     /// 4: a force component is not finite.
     Force,
@@ -85,8 +85,8 @@ impl Refusal {
             Refusal::Length => (2, "a lent buffer has the wrong length"),
             Refusal::Rate => (
                 3,
-                "3·viscosity + 0.5 is not finite or below 0.5; for Trt, the magic number is not finite or not above 0, \
-                 or the resulting rate is not finite, below 0 or above 2; or the floor is not finite or not above 0",
+                "3·viscosity + 0.5 is not finite or below 0.5, a Trt minus rate is not finite, below 0 or above 2, \
+                 or the floor is not finite or not above 0",
             ),
             Refusal::Force => (4, "a force component is not finite"),
             Refusal::Face => {
@@ -143,7 +143,7 @@ mod tests {
     fn meaning(text: &str) -> Vec<&str> {
         let words =
             text.split(|letter: char| !letter.is_alphanumeric()).map(|word| if word == "nu" { "viscosity" } else { word });
-        words.filter(|word| !["", "a", "the", "or", "steady", "run", "checkpoint"].contains(word)).collect()
+        words.filter(|word| !["", "a", "the", "or", "minus", "steady", "run", "checkpoint"].contains(word)).collect()
     }
 
     /// What the header's table says of each number; a row may go on in the next line.

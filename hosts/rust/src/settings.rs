@@ -45,12 +45,21 @@ pub enum Collision {
     Bgk,
     /// Nine moments, each with its rate.
     Mrt,
-    /// Two relaxation times. The library works out the second from the viscosity and the magic number, at every call.
-    Trt {
-        /// The magic number, (1/ω₊ - 0.5)·(1/ω₋ - 0.5) of the two rates: finite and above 0. [`MAGIC_BOUNCE_BACK`] suits every
-        /// flow with walls.
-        magic: f64,
-    },
+    /// Two relaxation times; the number is the minus rate.
+    Trt(f64),
+}
+
+impl Collision {
+    /// Trt with the minus rate that this magic number gives at this viscosity. A change of viscosity asks for a new rate.
+    pub fn trt_with_magic(nu: f64, magic: f64) -> Collision {
+        Collision::Trt(trt_omega_minus(1.0 / (3.0 * nu + 0.5), magic))
+    }
+}
+
+/// The minus rate that goes with a plus rate and a magic number. Each operation is rounded, and `1.0 / omega_plus` is taken of
+/// the rounded rate: the same bits as the solver's source gives.
+pub fn trt_omega_minus(omega_plus: f64, magic: f64) -> f64 {
+    1.0 / (magic / (1.0 / omega_plus - 0.5) + 0.5)
 }
 
 /// All that a study is, but for its populations.
@@ -92,7 +101,7 @@ impl Settings {
             nu,
             fx: 0.0,
             fy: 0.0,
-            collision: Collision::Trt { magic: MAGIC_BOUNCE_BACK },
+            collision: Collision::trt_with_magic(nu, MAGIC_BOUNCE_BACK),
             x_min: Face::Periodic,
             x_max: Face::Periodic,
             y_min: Face::Periodic,
@@ -104,10 +113,10 @@ impl Settings {
 
 impl From<&Settings> for ffi::Settings {
     fn from(settings: &Settings) -> ffi::Settings {
-        let (collision, magic) = match settings.collision {
+        let (collision, rate) = match settings.collision {
             Collision::Bgk => (0, 0.0),
             Collision::Mrt => (1, 0.0),
-            Collision::Trt { magic } => (2, magic),
+            Collision::Trt(rate) => (2, rate),
         };
         ffi::Settings {
             nx: settings.nx as u64,
@@ -116,7 +125,7 @@ impl From<&Settings> for ffi::Settings {
             fx: settings.fx,
             fy: settings.fy,
             collision,
-            magic,
+            rate,
             x_min: settings.x_min.into(),
             x_max: settings.x_max.into(),
             y_min: settings.y_min.into(),

@@ -30,8 +30,7 @@ fn a_run_of_no_steps_leaves_the_start_ruined_or_not_or_is_refused() {
         ruined(&format!("run {}", study("hollow", "sides 2 2\nviscosity 1\nsteps 0\nstart uniform -inf 0 0\n")));
     assert_eq!((value(&start, "steps"), value(&start, "mass")), ("0", "-inf"));
     assert!(wrong.contains("hollow.study: the state at step 0 is ruined: "), "{wrong}");
-    let lines =
-        ["viscosity -1", "viscosity 1\nforce inf 0", "viscosity 1\nx-min velocity 1 0", "viscosity 1\ncollision trt magic 0"];
+    let lines = ["viscosity -1", "viscosity 1\nforce inf 0", "viscosity 1\nx-min velocity 1 0", "viscosity 1\ncollision trt 3"];
     for (line, number) in lines.into_iter().zip([3, 4, 5, 3]) {
         let made = study("no-steps", &format!("sides 2 2\nsteps 0\n{line}\n"));
         let (status, said) = failed(&format!("run {made}"));
@@ -110,7 +109,6 @@ fn help_has_every_line_of_a_study_file_and_every_option() {
     }
     // What is left out, as docs and settings have it.
     assert_eq!(help.matches("1e-12 if left out").count(), 1);
-    assert_eq!(help.matches("trt magic 3/16 if left out").count(), 1);
     for option in ["--steps N", "--from FILE", "--save FILE", "--every N --into FOLDER", "--floor NUMBER"] {
         assert!(help.lines().any(|line| line.starts_with(&format!("    {option} "))), "{option}");
     }

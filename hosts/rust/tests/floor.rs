@@ -3,11 +3,9 @@
 
 mod asked;
 mod document;
-mod operations;
 
 use asked::{failed, out, path, ruined, study, value};
-use brothwagon::{Collision, FLOOR, Face, Refusal, Settings, Start, Study, StudyFile, ffi};
-use operations::{COLLIDING, OTHER, Operation, READING, held};
+use brothwagon::{Collision, FLOOR, Face, Obstacle, Refusal, Settings, Start, Study, StudyFile, ffi};
 use std::fs;
 
 /// What no floor can be: not finite, or not above 0.
@@ -15,14 +13,54 @@ const BAD: [f64; 8] = [f64::NAN, -f64::NAN, f64::INFINITY, f64::NEG_INFINITY, 0.
 
 const LEAST: f64 = 5e-324;
 
-/// Those that hold a density to the floor.
-fn testing() -> impl Iterator<Item = Operation> {
-    READING.into_iter().chain(COLLIDING)
+fn bits(numbers: &[f64]) -> Vec<u64> {
+    numbers.iter().map(|number| number.to_bits()).collect()
 }
 
-/// A flow with this floor.
+/// An operation of a study, and its answer as patterns.
+type Operation = fn(&mut Study) -> Result<Vec<u64>, Refusal>;
+
+/// Those that hold a density to the floor.
+const TESTING: [(&str, Operation); 6] = [
+    ("velocity", |study| study.velocity(1, 1).map(|u| bits(&u))),
+    ("velocity_field", |study| study.velocity_field().map(bits)),
+    ("kinetic_energy", |study| study.kinetic_energy().map(|energy| bits(&[energy]))),
+    ("step", |study| study.step().map(|()| Vec::new())),
+    ("run", |study| study.run(3).map(|()| Vec::new())),
+    ("run_to_steady_state", |study| {
+        study.run_to_steady_state(0.0, 3, 2).map(|end| vec![end.settled.into(), end.steps, end.residual.to_bits()])
+    }),
+];
+
+/// All others.
+const OTHER: [(&str, Operation); 10] = [
+    ("initialize", |study| study.initialize_uniform(1.5, 0.1, -0.05).map(|()| Vec::new())),
+    ("density", |study| study.density(1, 1).map(|rho| bits(&[rho]))),
+    ("total_mass", |study| study.total_mass().map(|mass| bits(&[mass]))),
+    ("plane", |study| study.plane(5).map(bits)),
+    ("stream_with_faces", |study| study.stream_with_faces().map(|()| Vec::new())),
+    ("lossless", |study| study.lossless().map(|answer| format!("{answer:?}").bytes().map(u64::from).collect())),
+    ("reverse", |study| study.reverse().map(|()| Vec::new())),
+    ("set_no_slip_bc", |study| study.set_no_slip_bc(&[Obstacle { x: 1, y: 0 }]).map(|()| Vec::new())),
+    ("checkpoint_file", |study| study.checkpoint_file(7).map(|file| file.into_iter().map(u64::from).collect())),
+    ("tally", |study| study.tally().map(|tally| vec![tally.all()])),
+];
+
+/// A flow on a grid of 3 by 2, with numbers in every buffer and then this floor.
 fn flow(floor: f64) -> Study {
-    operations::flow(|settings| Settings { floor, ..settings })
+    let mut study = Study::new(Settings { fx: 1e-3, ..Settings::new(3, 2, 0.1) }).unwrap();
+    study.initialize_with(|x, y| [1.0 + x as f64 / 8.0, 0.05, y as f64 / 64.0]).unwrap();
+    study.velocity_field().unwrap();
+    for (at, entry) in study.post_mut().iter_mut().enumerate() {
+        *entry = at as f64;
+    }
+    study.change(Settings { floor, ..*study.settings() }).unwrap();
+    study
+}
+
+/// What a study's buffers hold.
+fn held(study: &Study) -> Vec<u64> {
+    bits(&[study.f(), study.post(), study.snapshot()].concat())
 }
 
 #[test]
@@ -41,7 +79,7 @@ fn the_header_counts_the_words_that_are_read() {
 #[test]
 fn a_bad_floor_is_refused_by_those_that_use_it_and_nothing_is_written() {
     for floor in BAD {
-        for (name, operation) in testing() {
+        for (name, operation) in TESTING {
             let mut study = flow(floor);
             assert_eq!(operation(&mut study), Err(Refusal::Rate), "{name}, {floor:?}");
             assert_eq!(held(&study), held(&flow(floor)), "{name}, {floor:?}");
@@ -66,7 +104,7 @@ fn no_other_operation_looks_at_the_floor() {
 
 #[test]
 fn the_least_floor_and_the_highest_are_allowed() {
-    for (name, operation) in testing() {
+    for (name, operation) in TESTING {
         // All densities of the flow are about 1.
         let (mut least, mut usual) = (flow(LEAST), flow(1e-12));
         assert_eq!(operation(&mut least).unwrap(), operation(&mut usual).unwrap(), "{name}");
@@ -113,7 +151,7 @@ fn a_bad_floor_comes_after_sides_and_lengths_and_before_all_else() {
 #[test]
 fn readings_test_the_floor_alone() {
     let f = [0.25; 54];
-    let no_rates = ffi::Settings { nu: f64::NAN, collision: 7, magic: f64::NAN, ..(&Settings::new(3, 2, 0.1)).into() };
+    let no_rates = ffi::Settings { nu: f64::NAN, collision: 7, rate: f64::NAN, ..(&Settings::new(3, 2, 0.1)).into() };
     for (floor, number) in [(1e-12, 0), (f64::NAN, 3)] {
         let s = ffi::Settings { floor, ..no_rates };
         assert_eq!(ffi::velocity(&s, &f, 0, 0).0, number);
@@ -187,7 +225,7 @@ fn every_kind_of_collision_has_the_floor() {
     // minus twice the density at rest. Bgk and Trt relax it with 0.5, Mrt with 1.64.
     let row = [-4.0, -1.0, -1.0, -1.0, -1.0, 2.0, 2.0, 2.0, 2.0];
     for (collision, moves, at_rest) in
-        [(Collision::Bgk, 0.0, -1.5), (Collision::Trt { magic: 0.25 }, 0.0, -1.5), (Collision::Mrt, 2.28, -2.64)]
+        [(Collision::Bgk, 0.0, -1.5), (Collision::Trt(1.25), 0.0, -1.5), (Collision::Mrt, 2.28, -2.64)]
     {
         for floor in [1e-20, 1e-12, 1.0] {
             for density in about(floor) {
@@ -276,7 +314,7 @@ fn a_bad_floor_is_refused_before_the_first_step() {
             let (status, said) = failed(&words);
             assert_eq!(status, Some(1), "{words}, {floor}");
             assert!(said.contains("bad-floor.study: refused with number 3: "), "{words}, {floor}: {said}");
-            assert!(said.ends_with("; or the floor is not finite or not above 0\n"), "{words}, {floor}: {said}");
+            assert!(said.ends_with(", or the floor is not finite or not above 0\n"), "{words}, {floor}: {said}");
         }
         assert_eq!(out(&format!("lossless {bad}")), "lossless\n");
     }

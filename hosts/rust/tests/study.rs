@@ -1,6 +1,6 @@
 //! Every operation of a study, every refusal that its methods can meet, and what a refusal leaves.
 
-use brothwagon::{BadCell, Collision, Face, Lossless, OtherSides, Refusal, Settings, Study};
+use brothwagon::{BadCell, Collision, Face, Lossless, OtherSides, Refusal, Settings, Study, trt_omega_minus};
 
 /// A study whose post-collision entries each hold their own index.
 fn numbered(settings: Settings) -> Study {
@@ -135,7 +135,7 @@ fn each_refusal_is_reached() {
     assert!(Study::new(Settings::new(4096, 256, 0.1)).is_ok());
     assert_eq!(study(good).initialize(&[1.0; 11]), Err(Refusal::Length));
     assert_eq!(study(Settings { nu: -1.0, ..good }).step(), Err(Refusal::Rate));
-    assert_eq!(study(Settings { collision: Collision::Trt { magic: 0.0 }, ..good }).step(), Err(Refusal::Rate));
+    assert_eq!(study(Settings { collision: Collision::Trt(2.5), ..good }).step(), Err(Refusal::Rate));
     assert_eq!(study(Settings { fy: f64::NAN, ..good }).kinetic_energy(), Err(Refusal::Force));
     assert_eq!(study(Settings { x_min: Face::Velocity(1.0, 0.0), ..good }).step(), Err(Refusal::Face));
     assert_eq!(study(Settings { x_min: Face::Velocity(-1.0, 0.0), ..good }).step(), Ok(()));
@@ -167,4 +167,11 @@ fn settings_may_change_and_sides_may_not() {
     assert_eq!(other.to_string(), "the study is 3 by 2 and stays so; what it is given is 2 by 3");
     assert_eq!(study.change(Settings { fx: f64::NAN, ..*study.settings() }), Ok(()));
     assert_eq!(study.step(), Err(Refusal::Force));
+}
+
+#[test]
+fn the_minus_rate_of_a_magic_number() {
+    // (1/1 - 0.5)·(1/ω - 0.5) = 3/16 at ω = 8/7; and where the plus rate is 2 the minus rate is 0.
+    assert_eq!(trt_omega_minus(1.0, 3.0 / 16.0), 1.0 / 0.875);
+    assert_eq!(Collision::trt_with_magic(0.0, 0.25), Collision::Trt(0.0));
 }

@@ -1,7 +1,6 @@
 //! The reader of study files on made-up texts: each is a study, or has a line that is not as expected.
 
 use brothwagon::StudyFile;
-use std::ops::Range;
 
 const STUDIES: [&str; 5] = [
     include_str!("../../../studies/cavity.study"),
@@ -43,17 +42,6 @@ impl Made {
         }
     }
 
-    /// Where a part of a text begins and ends: a word, or so many letters.
-    fn part(&mut self, text: &[char]) -> Range<usize> {
-        let at = self.below(text.len() + 1);
-        if self.below(2) == 0 {
-            return at..(at + self.below(12)).min(text.len());
-        }
-        let before = text[..at].iter().rposition(|letter| letter.is_whitespace());
-        let behind = text[at..].iter().position(|letter| letter.is_whitespace());
-        before.map_or(0, |space| space + 1)..behind.map_or(text.len(), |space| at + space)
-    }
-
     /// A heap of pieces, or a study with some changes.
     fn text(&mut self) -> String {
         if self.below(4) == 0 {
@@ -61,7 +49,8 @@ impl Made {
         }
         let mut text: Vec<char> = self.pick(STUDIES.iter()).chars().collect();
         for _ in 0..self.below(6) {
-            let part = self.part(&text);
+            let from = self.below(text.len() + 1);
+            let to = (from + self.below(12)).min(text.len());
             let put = match self.below(3) {
                 0 => Vec::new(),
                 1 => self.piece().chars().collect(),
@@ -70,7 +59,7 @@ impl Made {
                     text[copied..(copied + self.below(60)).min(text.len())].to_vec()
                 }
             };
-            text.splice(part, put);
+            text.splice(from..to, put);
         }
         text.into_iter().collect()
     }
@@ -101,9 +90,6 @@ fn is_study(text: &str) -> bool {
 #[test]
 fn any_text_is_a_study_or_has_a_line_that_is_not_as_expected() {
     let mut made = Made(1);
-    let texts: Vec<String> = (0..3_000).map(|_| made.text()).collect();
-    let studies = texts.iter().filter(|text| is_study(text)).count();
+    let studies = (0..3_000).filter(|_| is_study(&made.text())).count();
     assert!((300..2_700).contains(&studies), "{studies} of the texts are studies");
-    let rates = texts.iter().filter(|text| StudyFile::read(text).is_err_and(|wrong| wrong.expected.contains("minus rate")));
-    assert!(rates.count() > 0, "no text has `trt NUMBER`");
 }
