@@ -1,5 +1,7 @@
 // The library for hosts in other languages: each function asks one operation, and takes settings as twenty words.
 // include/brothwagon.h is its face in C. What a host lends for a small answer is always written, with zeros on a refusal.
+#![tactic(auto)]
+
 ghost use Rattle.std.specs.Prelude.{◌≡◌};
 ghost use Rattle.settings.specs.Outcome.{outcome};
 ghost use Rattle.streaming.specs.Streaming.{streamed_with_faces};

@@ -7,7 +7,7 @@ use crate::guo::{along_force, forced, guo_sources};
 use crate::macroscopic::collision_moments;
 
 // Worked out once for a pass, as those of TRT and MRT.
-#[derive(Drop)]
+#[derive(Clone, Copy)]
 pub struct BgkRates {
     pub omega: f64,
     pub pref: f64,

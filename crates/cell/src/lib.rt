@@ -3,6 +3,8 @@
 // All of it is straight-line code over literal directions, in functions small enough to be inlined, so that the loop over the cells of a pass
 // can take several cells at once. A loop over nine, or a table read at a variable place, would end that; so would a function that two
 // of the cells share, if it were too large to be inlined in both.
+#![tactic(auto)]
+
 mod bgk;
 mod equilibrium;
 mod guo;
@@ -18,7 +20,7 @@ pub use mrt::{MrtRates, mrt_cell, mrt_rates};
 pub use trt::{TrtRates, trt_cell, trt_cell_any, trt_cell_forced, trt_rates};
 
 // A cell's density and velocity.
-#[derive(Drop)]
+#[derive(Clone, Copy)]
 pub struct Moments {
     pub density: f64,
     pub ux: f64,
@@ -26,7 +28,7 @@ pub struct Moments {
 }
 
 // The kinds. Trt carries its minus rate.
-#[derive(Drop)]
+#[derive(Clone, Copy)]
 pub enum Collision {
     Bgk,
     Mrt,

@@ -6,7 +6,7 @@ use crate::equilibrium::equilibria;
 use crate::guo::{along_force, forced, guo_sources};
 use crate::macroscopic::{collision_moments, sum_of_products};
 
-#[derive(Drop)]
+#[derive(Clone, Copy)]
 pub struct MrtRates {
     pub s_nu: f64,
     pub s_q: f64,

@@ -7,7 +7,7 @@ use crate::guo::{along_force, forced, guo_sources};
 use crate::macroscopic::collision_moments;
 use lattice::opposite;
 
-#[derive(Drop)]
+#[derive(Clone, Copy)]
 pub struct TrtRates {
     pub omega_p: f64,
     pub omega_m: f64,

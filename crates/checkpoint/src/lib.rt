@@ -1,4 +1,6 @@
 // The checkpoint file of a state: written, asked for its sides, and read.
+#![tactic(auto)]
+
 ghost use Rattle.std.specs.Prelude.{◌≡◌, ◌≤◌, length};
 ghost use Rattle.words.specs.Words.{Laid};
 ghost use Rattle.grid.specs.Grid.{Grid};
@@ -8,7 +10,7 @@ ghost use Rattle.checkpoint.specs.Checkpoint.{head_bytes, head_of, told, read, c
 use settings::{Head, Settings};
 
 // A number of the rules, and the sides and the step number of a file: zeros where the call is refused.
-#[derive(Drop)]
+#[derive(Clone, Copy)]
 pub struct Stored {
     pub number: u32,
     pub nx: usize,

@@ -1,4 +1,6 @@
 // The bytes of small checkpoint files and of a tally's; and what is refused, with which number, on lent buffers full of canaries.
+#![tactic(auto)]
+
 mod given;
 mod lines;
 mod refused;

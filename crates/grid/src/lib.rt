@@ -1,4 +1,6 @@
 // A grid's cells in a lent buffer: entry i of cell c of n stands at c + i·n, where c = x + y·nx and n = nx·ny.
+#![tactic(auto)]
+
 ghost use Rattle.std.specs.Prelude.{◌≡◌, ◌+◌, ◌*◌, ◌≤◌, ◌<◌, length, get_or, set};
 ghost use Rattle.number.specs.Number.{value_of, pattern_of};
 ghost use Rattle.number.specs.Nine.{at};

@@ -1,4 +1,6 @@
 // The settings of a study as a host in another language lends them: twenty words of 64 bits.
+#![tactic(auto)]
+
 ghost use Rattle.std.specs.Prelude.{◌≡◌, ◌<◌};
 ghost use Rattle.host.specs.Host.{face_of_kind, collision_of_kind, word_at, number_at, face_at, settings_of};
 

@@ -5,6 +5,8 @@
 //   3 - 0 - 1
 //     / | \
 //   7   4   8
+#![tactic(auto)]
+
 ghost use Rattle.std.specs.Prelude.{◌≡◌, ◌<◌};
 ghost use Rattle.std.specs.Float.{binary64};
 ghost use Rattle.std.specs.Float.Ieee.{of_int};
@@ -16,13 +18,13 @@ ghost use Rattle.lattice.specs.Sides as Sides;
 ghost use Rattle.lattice.specs.Sides.{normal, tangent, frame_of};
 
 // The axes of a grid, and the two sides of each, on which its faces are.
-#[derive(Drop)]
+#[derive(Clone, Copy)]
 pub enum Axis {
     X,
     Y,
 }
 
-#[derive(Drop)]
+#[derive(Clone, Copy)]
 pub enum Side {
     Min,
     Max,
@@ -157,7 +159,7 @@ pub fn mirror_index(i: usize, axis: Axis) -> usize
 // ---- the faces, by axis and side
 
 // The inward normal and the tangent of a face.
-#[derive(Drop)]
+#[derive(Clone, Copy)]
 pub struct Frame {
     pub n0: i32,
     pub n1: i32,

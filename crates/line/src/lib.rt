@@ -1,4 +1,6 @@
 // The line that the program `lossless_line` reads, and what it writes for it.
+#![tactic(auto)]
+
 ghost use Rattle.std.specs.Prelude.{◌≡◌, true, ◌+◌, ◌≤◌, length, take, drop};
 ghost use Rattle.line.specs.Line as Line;
 ghost use Rattle.line.specs.Line.{space, before, after, is_letter, are_letters, is_digit, are_digits, is_side, are_sides};
@@ -18,7 +20,7 @@ const MOST_DIGITS: usize = 5;
 const ROOM: usize = 32;
 
 // What is written: the first `count` bytes. The others are 0.
-#[derive(Drop)]
+#[derive(Clone, Copy)]
 pub struct Text {
     pub bytes: [u8; ROOM],
     pub count: usize,

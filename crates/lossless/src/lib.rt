@@ -1,4 +1,6 @@
 // Which faces lose nothing, and the reverse of streaming with faces.
+#![tactic(auto)]
+
 ghost use Rattle.std.specs.Prelude.{◌≡◌, ◌<◌};
 ghost use Rattle.lossless.specs.Lossless as Lossless;
 ghost use Rattle.lossless.specs.Lossless.{reply, lossy_at, lossless_of, reversed_of};
@@ -7,7 +9,7 @@ ghost use Rattle.settings.specs.Outcome.{outcome};
 use settings::{Face, Settings};
 
 // What the lossless question answers. A lossy answer names the lowest entry that is lost, by x, y and direction.
-#[derive(Drop)]
+#[derive(Clone, Copy)]
 pub enum Answer {
     Refused(u32),
     Lossless,

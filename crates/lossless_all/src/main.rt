@@ -1,4 +1,6 @@
 // The lossless question against counting, and the reverse against streaming: all 81 settings of Periodic, NoSlip and Symmetry faces on all grids with sides from 1 to 5.
+#![tactic(auto)]
+
 use cell::Collision;
 use libc::STDOUT_FILENO;
 use lossless::Answer;

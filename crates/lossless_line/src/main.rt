@@ -1,4 +1,6 @@
 // Reads one line from standard input and writes what it asks: `lossless`, `lossy X Y I`, `refused 1` or `unreadable`.
+#![tactic(auto)]
+
 ghost use Rattle.io.specs.Counts.{IsPrefixLen};
 
 // One byte more than the longest readable line: an input that fills it without a newline is too long, whatever follows.

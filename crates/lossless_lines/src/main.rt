@@ -1,4 +1,5 @@
 // Runs lines through what `lossless_line` decides. Each is written between bars, and after it what is written for it.
+#![tactic(auto)]
 
 fn ask(line: &[u8]) {
     io::write_all(1, b"|");

@@ -9,7 +9,7 @@ use borrow.Author.Count.{below_none, below_more}
 use borrow.Author.Tests.{ltb-true, ltb-false, lt-ltb, le-ltb}
 use lib.Arith.{bin_ind, digits_div, digits_mod}
 use lib.Bits.{bit_or, or_step, or_comm, or_zero_r, or_lt, or_add_and, and_le_r}
-use lib.Dec.{T, ltb}
+use lib.Dec.{T}
 use lib.Ieee.{binary64, nan_bits}
 use Rattle.number.specs.Joined.{finite_of, raised_of, joined_to, clear_of}
 use Rattle.number.proofs.Nan.{pattern_no_nan}

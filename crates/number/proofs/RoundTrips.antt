@@ -3,7 +3,7 @@ use mathlib.Core.Path.{◌≡◌}
 use mathlib.Core.Bool.{not}
 use Prim.Native.Nat.{ℕ, ◌^◌, ◌<◌}
 use lib.Dec.{T}
-use lib.Ieee.{Float, binary64, of_bits, fits, is_nan}
+use lib.Ieee.{Float, binary64, fits, is_nan}
 use lib.Ieee.Bits.{of_bits-to_bits, to_bits-of_bits}
 use Rattle.number.specs.Number.{value_of, pattern_of}
 

@@ -1,4 +1,6 @@
 // Numbers of 64 bits. A lent buffer holds patterns (u64), so that a copy keeps every bit; only arithmetic goes to f64 and back.
+#![tactic(auto)]
+
 ghost use Rattle.std.specs.Prelude.{◌≡◌, true};
 ghost use Rattle.std.specs.Float.{binary64};
 ghost use Rattle.std.specs.Float.Ieee.{of_bits, to_bits};

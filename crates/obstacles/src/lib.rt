@@ -1,4 +1,6 @@
 // Obstacles inside the grid: each cell that a lent list names has its populations swapped with their opposites.
+#![tactic(auto)]
+
 ghost use Rattle.std.specs.Prelude.{◌≡◌, ◌+◌, ◌*◌, ◌<◌, get_or};
 ghost use Rattle.lattice.specs.Lattice.{OPP};
 ghost use Rattle.grid.specs.Grid.{Holds};
@@ -10,7 +12,7 @@ ghost use Rattle.obstacles.specs.Turns.{exchanged, turn, size_number, place_numb
 use settings::{Obstacle, Settings};
 
 // What the turns so far have seen of the list: the number that refuses it, or 0; and then the lowest cell that may come next.
-#[derive(Drop)]
+#[derive(Clone, Copy)]
 struct Seen {
     number: u32,
     next: usize,

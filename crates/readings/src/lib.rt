@@ -1,4 +1,6 @@
 // What is read of a grid's populations, and their initialisation from a table. Cell c = x + y·nx is the one at (x, y).
+#![tactic(auto)]
+
 ghost use Rattle.std.specs.Prelude.{◌≡◌, ◌+◌, ◌*◌, ◌≤◌, length};
 ghost use Rattle.grid.specs.Grid.{Grid, Holds, cell_of, buffer_of};
 ghost use Rattle.cell.specs.Cell.{density_of, read_moments};
@@ -11,13 +13,13 @@ use cell::Moments;
 use settings::Settings;
 
 // A number of the rules, and the value that is read: 0.0 where the call is refused.
-#[derive(Drop)]
+#[derive(Clone, Copy)]
 pub struct Reading {
     pub number: u32,
     pub value: f64,
 }
 
-#[derive(Drop)]
+#[derive(Clone, Copy)]
 pub struct VelocityReading {
     pub number: u32,
     pub ux: f64,

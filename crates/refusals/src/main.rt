@@ -1,4 +1,6 @@
 // What is refused, and with which number: every operation but those on files and obstacles, on lent buffers full of canaries, and the questions beside them.
+#![tactic(auto)]
+
 mod asked;
 mod calls;
 mod given;

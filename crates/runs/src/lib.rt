@@ -1,4 +1,6 @@
 // Steps, runs, and the run to a steady state.
+#![tactic(auto)]
+
 mod passes;
 mod snapshot;
 mod steady;

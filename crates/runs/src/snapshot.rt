@@ -10,7 +10,7 @@ use cell::Moments;
 use settings::Settings;
 
 // The two maxima of a residual: of |Δu| and of |u|.
-#[derive(Drop)]
+#[derive(Clone, Copy)]
 struct Maxima {
     du: f64,
     umax: f64,

@@ -10,7 +10,7 @@ use settings::Settings;
 
 // What a steady run answers: settled or ran out, with the number of steps and the residual; ruined by a bad snapshot, with the
 // number of steps.
-#[derive(Drop)]
+#[derive(Clone, Copy)]
 pub enum Steady {
     Refused(u32),
     Settled(u64, f64),
@@ -19,7 +19,7 @@ pub enum Steady {
 }
 
 // What is asked of a steady run: the tolerance below which it is settled, the most steps, and how many of them to a check.
-#[derive(Drop)]
+#[derive(Clone, Copy)]
 struct Checks {
     tolerance: f64,
     max_steps: u64,
@@ -27,7 +27,7 @@ struct Checks {
 }
 
 // What a check finds: a bad snapshot, or the residual, below the tolerance or not.
-#[derive(Drop)]
+#[derive(Clone, Copy)]
 enum Check {
     Bad,
     Settles(f64),

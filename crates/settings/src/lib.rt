@@ -1,4 +1,6 @@
 // The settings of a study, the tests of what an operation is given, and the number that refuses it.
+#![tactic(auto)]
+
 ghost use Rattle.std.specs.Prelude.{◌≡◌, cond, [], ◌∷◌, ◌≤◌};
 ghost use Rattle.settings.specs.Tests as Tests;
 ghost use Rattle.settings.specs.Tests.{side_bad, sides_bad, length_bad, bytes_bad, tau_of, tau_bad, rate_bad, not_positive, face_bad, is_periodic, is_symmetry, count_bad, tally_count_bad, sums_bad};
@@ -9,7 +11,7 @@ use cell::Collision;
 use lattice::{Axis, Side};
 
 // What stands at one end of an axis. A moving wall and a velocity face carry two speeds, a pressure face one density.
-#[derive(Drop)]
+#[derive(Clone, Copy)]
 pub enum Face {
     Periodic,
     NoSlip,
@@ -19,7 +21,7 @@ pub enum Face {
     Pressure(f64),
 }
 
-#[derive(Drop)]
+#[derive(Clone, Copy)]
 pub struct Settings {
     pub nx: usize,
     pub ny: usize,
@@ -36,14 +38,14 @@ pub struct Settings {
 
 // A cell that an obstacle fills. C reads it as two words.
 #[repr(C)]
-#[derive(Drop)]
+#[derive(Clone, Copy)]
 pub struct Obstacle {
     pub x: usize,
     pub y: usize,
 }
 
 // The length of a checkpoint file, and what stands at its head: 0 for a part that the file does not have whole.
-#[derive(Drop)]
+#[derive(Clone, Copy)]
 pub struct Head {
     pub length: usize,
     pub count: usize,

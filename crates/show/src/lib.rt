@@ -1,5 +1,7 @@
 // A line for each case of a program of the gate: its operation and name, the number that it gives, values of its answer, and whether
 // what it leaves is as it must be.
+#![tactic(auto)]
+
 use libc::STDOUT_FILENO;
 
 // A NaN with a payload, so that a copy of it is told from any number.

@@ -14,7 +14,7 @@ use settings::Face;
 
 // The directions n, t, -t, n + t and n - t of a face, with n its inward normal and t its tangent. Three come in: n, n + t
 // and n - t.
-#[derive(Drop)]
+#[derive(Clone, Copy)]
 pub struct Names {
     pub n: usize,
     pub t: usize,
@@ -41,7 +41,7 @@ fn names_of(axis: Axis, side: Side) -> Names
 }
 
 // The cells of a face: cell k stands at start + k·stride.
-#[derive(Drop)]
+#[derive(Clone, Copy)]
 pub struct Line {
     pub start: usize,
     pub stride: usize,
@@ -73,7 +73,7 @@ pub fn line_of(axis: Axis, side: Side, nx: usize, ny: usize) -> Line
 }
 
 // Three planes of a buffer, one for each direction that comes in.
-#[derive(Drop)]
+#[derive(Clone, Copy)]
 pub struct Planes {
     pub n: usize,
     pub np: usize,
@@ -143,7 +143,7 @@ fn reflected(kind: Face, axis: Axis, d: Names) -> Planes
 
 // A face as the work at its cells needs it: which it is, its kind, which way the travel goes, the cells of the grid and its
 // own, its directions; the planes that come in, and those that they are reflected from.
-#[derive(Drop)]
+#[derive(Clone, Copy)]
 pub struct Edge {
     pub axis: Axis,
     pub side: Side,

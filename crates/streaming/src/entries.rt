@@ -6,7 +6,7 @@ ghost use Rattle.streaming.specs.Carried.{line_join};
 
 use crate::edge::{Line, Planes};
 
-#[derive(Drop)]
+#[derive(Clone, Copy)]
 pub struct Entries {
     pub n: u64,
     pub np: u64,

@@ -1,5 +1,7 @@
 // Streaming with six kinds of faces: `travel` streams, `edge` says where a face is, `entries` reads and writes what comes
 // in there, `walls` and `zou_he` compute it, and here the kinds and the four faces are put together.
+#![tactic(auto)]
+
 mod edge;
 mod entries;
 mod travel;

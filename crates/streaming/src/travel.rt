@@ -41,7 +41,7 @@ fn wrap(n: usize, k: usize) -> usize
 }
 
 // A plane of ny rows of nx entries, to be turned by sx along the rows and by sy across them.
-#[derive(Drop)]
+#[derive(Clone, Copy)]
 pub struct Shift {
     pub nx: usize,
     pub ny: usize,

@@ -10,14 +10,14 @@ use crate::edge::Names;
 use crate::entries::Entries;
 
 // What a Zou-He face prescribes: the velocity along n and t, or the density.
-#[derive(Drop)]
+#[derive(Clone, Copy)]
 pub enum ZouHe {
     Velocity(f64, f64),
     Pressure(f64),
 }
 
 // The density, and the velocity along n and t.
-#[derive(Drop)]
+#[derive(Clone, Copy)]
 pub struct Prescribed {
     pub rho: f64,
     pub un: f64,

@@ -1,4 +1,6 @@
 // Sums of 64-bit numbers, wrapping at 64 bits.
+#![tactic(auto)]
+
 ghost use Rattle.std.specs.Prelude.{◌≡◌, ◌+◌, ◌≤◌, length, slice_index};
 ghost use Rattle.sums.specs.Sums.{sum, wrapped, less, moved_by};
 

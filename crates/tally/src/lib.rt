@@ -1,5 +1,7 @@
 // The tally of a buffer: ten wrapping sums of its entries' patterns, worked out afresh, moved by one changed entry, and kept as
 // a file.
+#![tactic(auto)]
+
 ghost use Rattle.std.specs.Prelude.{◌≡◌, ◌*◌, ◌≤◌, ◌<◌, length, get_or, set};
 ghost use Rattle.grid.specs.Grid.{most_cells};
 ghost use Rattle.settings.specs.Outcome.{outcome};
@@ -9,7 +11,7 @@ ghost use Rattle.tally.specs.File.{ten_of, tally_written, tally_read};
 use settings::Settings;
 
 // A number of the rules, and the ten numbers of a tally: zeros where the call is refused.
-#[derive(Drop)]
+#[derive(Clone, Copy)]
 pub struct Tallied {
     pub number: u32,
     pub tally: [u64; 10],

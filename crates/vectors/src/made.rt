@@ -55,7 +55,7 @@ pub fn number(mode: u64, x: u64) -> f64 {
 }
 
 // Nine numbers from x on, and the number after them.
-#[derive(Drop)]
+#[derive(Clone, Copy)]
 pub struct Drawn {
     pub f: [f64; 9],
     pub x: u64,

@@ -1,4 +1,6 @@
 // Asks the port what the Rust was asked, and writes the answers as patterns in hexadecimal: they must be those that the Rust wrote.
+#![tactic(auto)]
+
 mod cells;
 mod floors;
 mod grids;

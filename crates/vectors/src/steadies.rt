@@ -22,7 +22,7 @@ const HALF: u64 = 0x3fe0_0000_0000_0000;
 const HUGE: u64 = 0x7fe0_0000_0000_0000;
 
 // What a line says of an answer.
-#[derive(Drop)]
+#[derive(Clone, Copy)]
 struct Values {
     number: u32,
     settled: u64,

@@ -1,4 +1,6 @@
 // Numbers as bytes, the highest first: one number of up to eight bytes, and many of eight.
+#![tactic(auto)]
+
 ghost use Rattle.std.specs.Prelude.{◌≡◌, ◌+◌, ◌*◌, ◌^◌, ◌≤◌, ◌<◌, length};
 ghost use Rattle.words.specs.Words.{byte_of, big, bigs, number_at, part_at, numbers_at, Laid};
 

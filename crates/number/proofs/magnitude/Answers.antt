@@ -1,18 +1,17 @@
 -- `number::magnitude` meets its contract: below 0 stands exactly what has its sign set and is not 0, and the format has one +0.
-use mathlib.Core.Path.{◌≡◌, refl, sym, ◌∙◌, subst}
-use mathlib.Core.Bool.{Bool, true, false, cond, ◌&&◌}
+use mathlib.Core.Path.{◌≡◌, refl, sym, subst}
+use mathlib.Core.Bool.{Bool, true, false, cond}
 use Prim.Native.Nat.{ℕ, zero, suc, ◌+◌, ◌*◌, ◌<◌}
 use native.Mathlib.Nat.{zero-mul, mul-pos, zero-lt-suc}
 use native.Mathlib.Omega.{arith}
 use lib.Dec.{T}
 use lib.IntN.{ℤ, pos}
 use borrow.Author.Tests.{lt-ltb, le-ltb, ne_eqb}
-use lib.Ieee.{Float, nan, inf, fin, binary64, up, down, fits, lt, eq, neg, of_bits}
+use lib.Ieee.{Float, nan, inf, fin, binary64, up, fits, lt, eq, neg, of_bits}
 use lib.Ieee.Fits.{up_pos}
 use Rattle.number.specs.Number.{c0, magnitude_of}
 use Rattle.number.proofs.Exact.{same_number}
-use Rattle.number.proofs.magnitude.Statement.{statement}
-use Rattle.number.proofs.magnitude.Tie as tie
+use Rattle.number.proofs.magnitude.Goals as goal
 
 -- the digits of a number that is not 0 show
 shows : (m : ℕ) (e : ℤ) → 0 < suc m * up e * 1
@@ -40,14 +39,11 @@ clears (fin false (suc m) e) h = let p = shows m e in simp (zero-mul, le-ltb (su
 known : (x : Float) → fits binary64 x ≡ true → T (fits binary64 x)
 known x e = subst T (sym e) tt
 
-returns : tie.Need-returns
-returns c = rw c.if1.true at (clears c.before.args.x (known _ c.before.well-formed.0.1))
+pub returns-then-x : goal.returns-then-x
+returns-then-x c = rw c.if-x.true at (clears c.args.x (known _ c.well_formed.0.1))
 
-returns-2 : tie.Need-returns-2
-returns-2 c = rw (c.before.if1.false, c.if2.true) at (clears c.before.before.args.x (known _ c.before.before.well-formed.0.1))
+pub returns-then-x-2 : goal.returns-then-x-2
+returns-then-x-2 c = rw (c.if-x.false, c.if-x-2.true) at (clears c.args.x (known _ c.well_formed.0.1))
 
-returns-3 : tie.Need-returns-3
-returns-3 c = rw (c.before.if1.false, c.if2.false) at (clears c.before.before.args.x (known _ c.before.before.well-formed.0.1))
-
-pub magnitude-spec : {M : Type 1} → statement M
-magnitude-spec = tie.close (tie.spec returns returns-2 returns-3)
+pub returns-else-x-2 : goal.returns-else-x-2
+returns-else-x-2 c = rw (c.if-x.false, c.if-x-2.false) at (clears c.args.x (known _ c.well_formed.0.1))
