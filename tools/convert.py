@@ -161,7 +161,11 @@ class Function:
             else:
                 self.helpers.append(b)
 
-    def need(self, old):
+    def need(self, old, decl=None):
+        needs = self.info["needs"]
+        if decl and self.args and len(self.args) - len(self.invs) == len(needs) and decl in self.args:
+            i = self.args.index(decl) - len(self.invs)
+            return needs[i][1], self.info["asked_at"][i]
         for i, (o, n) in enumerate(self.info["needs"]):
             if flat(o) == flat(old) or flat(n) == flat(old):
                 return n, self.info["asked_at"][i]
@@ -224,7 +228,7 @@ class Function:
         lines = [l for l in lines if not l.startswith("--")]
         unf = [l for l in lines if l.startswith("unfolding ")]
         eqs = "\n".join(l for l in lines[1:] if not l.startswith("unfolding "))
-        m = re.match(re.escape(name) + r"((?:\s+" + WORD + r")*)\s*=(.*)", eqs, re.S)
+        m = re.match(re.escape(name) + r"((?:\s+(?!=\s)" + WORD + r")*)\s*=(?=\s)(.*)", eqs, re.S)
         if not m:
             self.left.append(f"{self.fn}: equation of {name} not read")
             return None
@@ -276,17 +280,20 @@ class Function:
         lines = [l for l in b.split("\n") if not l.startswith("--")]
         comments = [l for l in b.split("\n") if l.startswith("--")]
         old = re.search(r"tie\.((?:invariant|decreases)-" + WORD + ")", lines[0])[1]
-        loops = self.info["loops"]
         unf = [l for l in lines if l.startswith("unfolding ")]
         eqs = "\n".join(l for l in lines[1:] if not l.startswith("unfolding "))
-        m = re.match(re.escape(name) + r"((?:\s+" + WORD + r")*)\s*=(.*)", eqs, re.S)
+        m = re.match(re.escape(name) + r"((?:\s+(?!=\s)" + WORD + r")*)\s*=(?=\s)(.*)", eqs, re.S)
         params, body = m[1].split(), m[2]
-        new = None
-        for lo in loops:
-            if flat(lo["old"]) == flat(old.split("-", 1)[1]):
-                new = lo["new"]
+        new, table = None, {}
+        for ((was, now), variables), changed in zip(self.info["loops"], self.info["changed"]):
+            if flat(was) == flat(old.split("-", 1)[1]):
+                new = now
+                moving = [v for v, ch in zip(variables, changed) if ch]
+                meant = [("l.initial." + v if ch else "l." + v) for v, ch in zip(variables, changed)] + ["l." + v for v in moving]
+                if len(meant) != len(params):
+                    self.left.append(f"{self.fn}: {name} has {params} for {meant}")
+                table = dict(zip(params, meant))
         kind = old.split("-", 1)[0]
-        table = {p: ("l.initial." + p[:-1]) if p.endswith("₀") else "l." + p for p in params}
         body = re.sub(WORD, lambda m: table.get(m[0], m[0]), body)
         # a projection of a parameter, as f.now, was one word with a dot
         return kind, new, unf, body, comments
@@ -308,7 +315,9 @@ def main(argv):
         fn.parse()
         answers, texts = [], []
         for name, old, b in fn.goals:
-            new, place = fn.need(old)
+            if flat(old).startswith("same_length"):
+                continue
+            new, place = fn.need(old, name)
             if new is None:
                 fn.left.append(f"{fn.fn}: no goal {old} now; there are {[n for o, n in fn.info['needs']]}, settled {fn.info['settled']}")
                 answers.append("-- left: " + b.replace("\n", "\n-- "))

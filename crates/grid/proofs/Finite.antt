@@ -1,10 +1,9 @@
 -- A buffer's joined bits are clear exactly where every entry is finite.
-use mathlib.Core.Path.{◌≡◌, ap, ◌∙◌}
+use mathlib.Core.Path.{◌≡◌, ap}
 use mathlib.Core.Bool.{true}
 use mathlib.Core.List.{List}
 use mathlib.Core.Logic.{⊎_elim}
 use Prim.Native.Nat.{ℕ}
-use native.Mathlib.Omega.{arith}
 use lib.ListN.{length, get_or, get_or-eq_default}
 use Rattle.number.specs.Joined.{finite_of, clear_of}
 use Rattle.number.proofs.Joined.{joined_finite, finite_joined}

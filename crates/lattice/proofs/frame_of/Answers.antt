@@ -9,8 +9,7 @@ use Rattle.lattice.specs.declared.Axis.TheVariants.{X, Y}
 use Rattle.lattice.specs.declared.Side.{Side}
 use Rattle.lattice.specs.Sides.{sign, frame_of}
 use Rattle.lattice.proofs.Frames.{kept}
-use Rattle.lattice.proofs.frame_of.Tie as tie
-use Rattle.lattice.proofs.frame_of.Statement.{statement}
+use Rattle.lattice.proofs.frame_of.Goals as goal
 
 framed_x : (s : Side) {z : ℤ} → z ≡ sign s → ◌≡◌ {A = Frame} (record { n0 = to_z w32 (of_z w32 z); n1 = pos 0; t0 = pos 0; t1 = pos 1 }) (frame_of X s)
 framed_x s e = λ x. record { n0 = kept s e x; n1 = pos 0; t0 = pos 0; t1 = pos 1 }
@@ -18,12 +17,8 @@ framed_x s e = λ x. record { n0 = kept s e x; n1 = pos 0; t0 = pos 0; t1 = pos 
 framed_y : (s : Side) {z : ℤ} → z ≡ sign s → ◌≡◌ {A = Frame} (record { n0 = pos 0; n1 = to_z w32 (of_z w32 z); t0 = pos 1; t1 = pos 0 }) (frame_of Y s)
 framed_y s e = λ x. record { n0 = pos 0; n1 = kept s e x; t0 = pos 1; t1 = pos 0 }
 
-returns : tie.Need-returns
-returns c = let s = c.before.before in rw c.enum_told.given.1 (framed_x s.before.args.side s.sign.ensures)
+pub returns-in-X : goal.returns-in-X
+returns-in-X c = rw c.enum_told-1.given.1 (framed_x c.args.side c.sign-s.ensures)
 
-returns-2 : tie.Need-returns-2
-returns-2 c = let s = c.before.before in rw c.enum-told2.given.1 (framed_y s.before.args.side s.sign.ensures)
-
-pub frame-of-spec : {M : Type 1} → statement M
-frame-of-spec =
-    tie.close (tie.spec (λ c κs. search rules) (λ c. search rules) (λ c. search rules) returns returns-2)
+pub returns-in-Y : goal.returns-in-Y
+returns-in-Y c = rw c.enum_told-in-Y-1.given.1 (framed_y c.args.side c.sign-s.ensures)

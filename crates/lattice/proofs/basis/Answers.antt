@@ -2,12 +2,8 @@
 use mathlib.Core.Path.{refl}
 use lib.Ieee.{of_bits, of_int, neg}
 use Rattle.lattice.specs.Lattice.{basis, basis_floats}
-use Rattle.lattice.proofs.basis.Statement.{statement}
-use Rattle.lattice.proofs.basis.Tie as tie
+use Rattle.lattice.proofs.basis.Goals as goal
 
-returns : tie.Need-returns
+pub returns : goal.returns
 unfolding basis basis_floats of_bits of_int neg
 returns c = refl
-
-pub basis-spec : {M : Type 1} → statement M
-basis-spec = tie.close (tie.spec returns)

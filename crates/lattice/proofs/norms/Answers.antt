@@ -2,12 +2,8 @@
 use mathlib.Core.Path.{refl}
 use lib.Ieee.{of_bits, of_int, neg}
 use Rattle.lattice.specs.Lattice.{norms, norm_floats}
-use Rattle.lattice.proofs.norms.Statement.{statement}
-use Rattle.lattice.proofs.norms.Tie as tie
+use Rattle.lattice.proofs.norms.Goals as goal
 
-returns : tie.Need-returns
+pub returns : goal.returns
 unfolding norms norm_floats of_bits of_int neg
 returns c = refl
-
-pub norms-spec : {M : Type 1} → statement M
-norms-spec = tie.close (tie.spec returns)

@@ -16,8 +16,7 @@ use Rattle.number.proofs.Nine.{all_nine}
 use Rattle.lattice.specs.declared.Axis.TheVariants.{X, Y}
 use Rattle.lattice.specs.Lattice.{directions, E}
 use Rattle.lattice.specs.Lookup.{is_row, lookup, dir_index_of, Direction}
-use Rattle.lattice.proofs.dir_index.Statement.{statement}
-use Rattle.lattice.proofs.dir_index.Tie as tie
+use Rattle.lattice.proofs.dir_index.Goals as goal
 
 -- an i32 read back from its bits; the row and the column of a component, as the code works them out
 abbrev kept : ℤ → ℤ
@@ -46,6 +45,7 @@ placed z e = record {
   fits = record { sfits = ltb-true (mag z) (2 ^ 31) (cc) };
   natural = subst T {x = true} {y = non_neg (kept z)} (cc) tt;
   small = ltb-true (nat_abs (kept z)) 3 (cc);
+
 }
 
 placed_table : nine (λ k. asked (row (E k Y)) ∷ asked (column (E k X)) ∷ []) ≡ nine (λ k. passed ∷ passed ∷ [])
@@ -71,52 +71,37 @@ found t e a b d =
     (all_nine (λ k. read t (E k X) (E k Y)) (λ k. dir_index_of (E k X) (E k Y)) e d.i d.small)
 
 -- ---- the needs
-
 in_row : (s : tie.Start) → Placed (row s.args.ey)
 in_row s = (in_place s.args.ex s.args.ey s.requires).0
 
 in-column : (s : tie.Start) → Placed (column s.args.ex)
 in-column s = (in_place s.args.ex s.args.ey s.requires).1
 
-add_row : tie.Need-overflow-add-row
-add_row c = (in_row c).ranges
+pub overflow_add-row : goal.overflow_add-row
+overflow_add-row c = (in_row c).ranges
 
-cast-row : tie.Need-overflow-cast-row
-cast-row c = let p = in_row c in (p.natural, record { fits = omega (arith, p.small) })
+pub overflow_cast-row : goal.overflow_cast-row
+overflow_cast-row c = let p = in_row c in (p.natural, record { fits = omega (arith, p.small) })
 
-sub-column : tie.Need-overflow-sub-column
-sub-column c = (in-column c).ranges
+pub overflow_sub-column : goal.overflow_sub-column
+overflow_sub-column c = (in-column c).ranges
 
-cast-column : tie.Need-overflow-cast-column
-cast-column c = let p = in-column c in (p.natural, record { fits = omega (arith, p.small) })
+pub overflow_cast-column : goal.overflow_cast-column
+overflow_cast-column c = let p = in-column c in (p.natural, record { fits = omega (arith, p.small) })
 
-mul-place : tie.Need-overflow-mul-place
-mul-place c = record { fits = omega (arith, (in_row c).small) }
+pub overflow_mul-place : goal.overflow_mul-place
+overflow_mul-place c = record { fits = omega (arith, (in_row c).small) }
 
-add-place : tie.Need-overflow-add-place
-add-place c = record { fits = omega (arith, (in_row c).small, (in-column c).small) }
+pub overflow_add-place : goal.overflow_add-place
+overflow_add-place c = record { fits = omega (arith, (in_row c).small, (in-column c).small) }
 
-mul-result : tie.Need-overflow-mul-result
-mul-result c = record { fits = omega (arith, (in_row c).small, (in-column c).small) }
+pub overflow_mul-result : goal.overflow_mul-result
+overflow_mul-result c = record { fits = omega (arith, (in_row c).small, (in-column c).small) }
 
-shr-result : tie.Need-overflow-shr-result
-shr-result c = omega (arith, (in_row c).small, (in-column c).small)
+pub overflow_shr-result : goal.overflow_shr-result
+overflow_shr-result c = omega (arith, (in_row c).small, (in-column c).small)
 
 -- the code's table is right: antt computes it
-returns : tie.Need-returns
+pub returns : goal.returns
 unfolding directions lookup is_row
 returns c = found _ refl c.args.ex c.args.ey c.requires
-
-pub dir-index-spec : {M : Type 1} → statement M
-dir-index-spec =
-    tie.close
-    (tie.spec
-    add_row
-    cast-row
-    sub-column
-    cast-column
-    mul-place
-    add-place
-    mul-result
-    shr-result
-    returns)

@@ -1,5 +1,4 @@
 -- `lattice::mirror_index` meets its contract: over the whole table, the i32 that are looked up are the mirrored components, which no
--- lookup misses.
 use mathlib.Core.Path.{◌≡◌, refl}
 use mathlib.Core.Bool.{true}
 use Prim.Native.Nat.{ℕ, ◌^◌, ◌<◌}
@@ -19,8 +18,7 @@ use Rattle.lattice.specs.Lattice.{directions, E}
 use Rattle.lattice.specs.Lookup.{dir_index_of, Direction, mirrored, mirror}
 use Rattle.lattice.proofs.Lookups.{no_miss}
 use Rattle.lattice.proofs.Tables.{mirror_small}
-use Rattle.lattice.proofs.mirror_index.Statement.{statement}
-use Rattle.lattice.proofs.mirror_index.Tie as tie
+use Rattle.lattice.proofs.mirror_index.Goals as goal
 
 -- a whole number as an i32, and the negated i32
 abbrev kept : ℤ → ℤ
@@ -62,51 +60,28 @@ unfolding mirror
 answered a i r h e =
     let m : r ≡ mirror a i = rw (← looked_is a X i h, ← looked_is a Y i h) e in (m, rw m (mirror_small a i h))
 
-sub-dir-index : tie.Need-overflow-sub-dir-index
+pub overflow_sub-ex : goal.overflow_sub-ex
 unfolding directions
-sub-dir-index c = let s = c.before.before.before.before in negated_fits X s.args.i s.requires
+overflow_sub-ex c = negated_fits X c.args.i c.requires
 
-dir-index-requires : tie.Need-dir-index-requires
+pub dir_index-requires : goal.dir_index-requires
 unfolding directions
-dir-index-requires c κs = let s = c.before.before.before.before in allowed X s.args.i s.requires
+dir_index-requires c = allowed X c.args.i c.requires
 
-sub-dir-index-2 : tie.Need-overflow-sub-dir-index-2
+pub overflow_sub-ey : goal.overflow_sub-ey
 unfolding directions
-sub-dir-index-2 c = let s = c.before.before.before.before in negated_fits Y s.args.i s.requires
+overflow_sub-ey c = negated_fits Y c.args.i c.requires
 
-dir-index-requires-2 : tie.Need-dir-index-requires-2
+pub dir_index-requires-in-Y : goal.dir_index-requires-in-Y
 unfolding directions
-dir-index-requires-2 c κs = let s = c.before.before.before.before in allowed Y s.args.i s.requires
+dir_index-requires-in-Y c = allowed Y c.args.i c.requires
 
-returns : tie.Need-returns
+pub returns-in-X : goal.returns-in-X
 unfolding directions
-returns c =
-    let told = c.before in
-    let s = told.before.before.before.before in
-    rw told.enum_told.given.1 (answered X s.args.i _ s.requires c.dir-index.ensures)
+returns-in-X c =
+    rw c.enum_told-1.given.1 (answered X c.args.i _ c.requires c.dir_index.ensures)
 
-returns-2 : tie.Need-returns-2
+pub returns-in-Y : goal.returns-in-Y
 unfolding directions
-returns-2 c =
-    let told = c.before in
-    let s = told.before.before.before.before in
-    rw told.enum-told2.given.1 (answered Y s.args.i _ s.requires c.dir-index2.ensures)
-
-pub mirror-index-spec : {M : Type 1} → statement M
-mirror-index-spec =
-    tie.close
-    (tie.spec
-    (λ c. search rules)
-    (λ c. search rules)
-    (λ c. search rules)
-    (λ c. search rules)
-    (λ c. search rules)
-    (λ c. search rules)
-    (λ c. search rules)
-    sub-dir-index
-    dir-index-requires
-    (λ c. search rules)
-    sub-dir-index-2
-    dir-index-requires-2
-    returns
-    returns-2)
+returns-in-Y c =
+    rw c.enum_told-in-Y-1.given.1 (answered Y c.args.i _ c.requires c.dir_index-in-Y.ensures)
