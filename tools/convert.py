@@ -199,6 +199,10 @@ class Function:
                 if new is None:
                     self.left.append(f"{self.fn}: no step {step} on the way to {place}; there are {sorted(steps)}")
                 else:
+                    if new.startswith("enum_told") and parts[1:3] == ["given", "1"]:
+                        arm = next((n for n in steps.values() if n.startswith("in-")), None)
+                        if arm:
+                            return f"{ctx}.{arm}.is"
                     parts[0] = new
                     fn = flat(step).rstrip("0123456789")
                     self.clause(parts, fn)

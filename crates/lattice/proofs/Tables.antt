@@ -2,10 +2,13 @@
 use mathlib.Core.Path.{◌≡◌, refl}
 use mathlib.Core.Bool.{true}
 use mathlib.Core.List.{[], ◌∷◌}
-use Prim.Native.Nat.{ℕ, ◌<◌}
+use Prim.Native.Nat.{ℕ, ◌<◌, ◌^◌}
 use lib.Dec.{ltb}
 use borrow.Author.Tests.{ltb-true}
 use lib.IntN.{neg_ℤ}
+use lib.Signed.{mag}
+use mir.Syntax.{w32}
+use mir.Val.{SFits}
 use Rattle.number.specs.Nine.{nine}
 use Rattle.number.proofs.Nine.{all_nine}
 use Rattle.lattice.specs.declared.Axis.{Axis}
@@ -68,3 +71,12 @@ pub mirror_small : (a : Axis) (i : ℕ) → i < 9 → mirror a i < 9
 mirror_small a i h =
     let r = all_nine (λ k. ltb (OPP k) 9 ∷ ltb (mirror a k) 9 ∷ []) (λ k. true ∷ true ∷ []) (small_table a) i h in
     ltb-true (mirror a i) 9 (cc)
+
+-- a component fits an i32
+fits_table : (a : Axis) → nine (λ i. ltb (mag (E i a)) (2 ^ 31)) ≡ nine (λ i. true)
+unfolding directions
+fits_table X = refl
+fits_table Y = refl
+
+pub component_fits : (a : Axis) (i : ℕ) → i < 9 → SFits w32 (E i a)
+component_fits a i h = record { sfits = ltb-true _ _ (all_nine (λ k. ltb (mag (E k a)) (2 ^ 31)) (λ k. true) (fits_table a) i h) }

@@ -12,7 +12,7 @@ ghost use Rattle.std.specs.Float.{binary64};
 ghost use Rattle.std.specs.Float.Ieee.{of_int};
 ghost use Rattle.number.specs.Number.{◌⊕◌, ◌⊗◌};
 ghost use Rattle.lattice.specs.Lattice as Lattice;
-ghost use Rattle.lattice.specs.Lattice.{ex, ey, W, OPP, basis_floats, norm_floats};
+ghost use Rattle.lattice.specs.Lattice.{ex, ey, basis_floats, norm_floats};
 ghost use Rattle.lattice.specs.Lookup.{Direction, dir_index_of, mirror};
 ghost use Rattle.lattice.specs.Sides as Sides;
 ghost use Rattle.lattice.specs.Sides.{normal, tangent, frame_of};
@@ -106,14 +106,14 @@ pub fn e_y(i: usize) -> f64
 
 pub fn weight(i: usize) -> f64
     requires { i < 9 }
-    ensures { result ≡ W i }
+    ensures { result ≡ Lattice.W i }
 {
     W[i]
 }
 
 pub fn opposite(i: usize) -> usize
     requires { i < 9 }
-    ensures { (result ≡ OPP i) × (result < 9) }
+    ensures { (result ≡ Lattice.OPP i) × (result < 9) }
 {
     OPP[i]
 }

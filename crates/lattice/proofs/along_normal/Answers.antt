@@ -1,5 +1,4 @@
 -- `lattice::along_normal` meets its contract: the frame's normal is read back from i32.
-use borrow.Author.Rules.{rules}
 use Rattle.lattice.proofs.Frames.{by_normal}
 use Rattle.lattice.proofs.along_normal.Goals as goal
 

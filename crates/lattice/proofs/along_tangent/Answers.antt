@@ -1,5 +1,4 @@
 -- `lattice::along_tangent` meets its contract: the frame's tangent is read back from i32.
-use borrow.Author.Rules.{rules}
 use Rattle.lattice.proofs.Frames.{by_tangent}
 use Rattle.lattice.proofs.along_tangent.Goals as goal
 

@@ -45,7 +45,6 @@ placed z e = record {
   fits = record { sfits = ltb-true (mag z) (2 ^ 31) (cc) };
   natural = subst T {x = true} {y = non_neg (kept z)} (cc) tt;
   small = ltb-true (nat_abs (kept z)) 3 (cc);
-
 }
 
 placed_table : nine (λ k. asked (row (E k Y)) ∷ asked (column (E k X)) ∷ []) ≡ nine (λ k. passed ∷ passed ∷ [])
@@ -71,35 +70,29 @@ found t e a b d =
     (all_nine (λ k. read t (E k X) (E k Y)) (λ k. dir_index_of (E k X) (E k Y)) e d.i d.small)
 
 -- ---- the needs
-in_row : (s : tie.Start) → Placed (row s.args.ey)
-in_row s = (in_place s.args.ex s.args.ey s.requires).0
-
-in-column : (s : tie.Start) → Placed (column s.args.ex)
-in-column s = (in_place s.args.ex s.args.ey s.requires).1
-
 pub overflow_add-row : goal.overflow_add-row
-overflow_add-row c = (in_row c).ranges
+overflow_add-row c = (in_place c.args.ex c.args.ey c.requires).0.fits
 
 pub overflow_cast-row : goal.overflow_cast-row
-overflow_cast-row c = let p = in_row c in (p.natural, record { fits = omega (arith, p.small) })
+overflow_cast-row c = let p = (in_place c.args.ex c.args.ey c.requires).0 in (p.natural, record { fits = omega (arith, p.small) })
 
 pub overflow_sub-column : goal.overflow_sub-column
-overflow_sub-column c = (in-column c).ranges
+overflow_sub-column c = (in_place c.args.ex c.args.ey c.requires).1.fits
 
 pub overflow_cast-column : goal.overflow_cast-column
-overflow_cast-column c = let p = in-column c in (p.natural, record { fits = omega (arith, p.small) })
+overflow_cast-column c = let p = (in_place c.args.ex c.args.ey c.requires).1 in (p.natural, record { fits = omega (arith, p.small) })
 
 pub overflow_mul-place : goal.overflow_mul-place
-overflow_mul-place c = record { fits = omega (arith, (in_row c).small) }
+overflow_mul-place c = record { fits = omega (arith, (in_place c.args.ex c.args.ey c.requires).0.small) }
 
 pub overflow_add-place : goal.overflow_add-place
-overflow_add-place c = record { fits = omega (arith, (in_row c).small, (in-column c).small) }
+overflow_add-place c = record { fits = omega (arith, (in_place c.args.ex c.args.ey c.requires).0.small, (in_place c.args.ex c.args.ey c.requires).1.small) }
 
 pub overflow_mul-result : goal.overflow_mul-result
-overflow_mul-result c = record { fits = omega (arith, (in_row c).small, (in-column c).small) }
+overflow_mul-result c = record { fits = omega (arith, (in_place c.args.ex c.args.ey c.requires).0.small, (in_place c.args.ex c.args.ey c.requires).1.small) }
 
 pub overflow_shr-result : goal.overflow_shr-result
-overflow_shr-result c = omega (arith, (in_row c).small, (in-column c).small)
+overflow_shr-result c = omega (arith, (in_place c.args.ex c.args.ey c.requires).0.small, (in_place c.args.ex c.args.ey c.requires).1.small)
 
 -- the code's table is right: antt computes it
 pub returns : goal.returns

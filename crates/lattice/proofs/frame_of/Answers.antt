@@ -3,7 +3,6 @@ use mathlib.Core.Path.{◌≡◌}
 use lib.IntN.{ℤ, pos}
 use mir.Syntax.{w32}
 use mir.Val.{to_z, of_z}
-use borrow.Author.Rules.{rules}
 use Rattle.lattice.specs.declared.Frame.{Frame}
 use Rattle.lattice.specs.declared.Axis.TheVariants.{X, Y}
 use Rattle.lattice.specs.declared.Side.{Side}
@@ -18,7 +17,7 @@ framed_y : (s : Side) {z : ℤ} → z ≡ sign s → ◌≡◌ {A = Frame} (reco
 framed_y s e = λ x. record { n0 = pos 0; n1 = kept s e x; t0 = pos 1; t1 = pos 0 }
 
 pub returns-in-X : goal.returns-in-X
-returns-in-X c = rw c.enum_told-1.given.1 (framed_x c.args.side c.sign-s.ensures)
+returns-in-X c = rw c.in-X.is (framed_x c.args.side c.sign-s.ensures)
 
 pub returns-in-Y : goal.returns-in-Y
-returns-in-Y c = rw c.enum_told-in-Y-1.given.1 (framed_y c.args.side c.sign-s.ensures)
+returns-in-Y c = rw c.in-Y.is (framed_y c.args.side c.sign-s.ensures)

@@ -7,7 +7,6 @@ use lib.IntN.{ℤ, pos, ◌-ℤ◌}
 use lib.Signed.{mag}
 use mir.Syntax.{w32}
 use mir.Val.{to_z, of_z, SFits}
-use borrow.Author.Rules.{rules}
 use borrow.Author.Tests.{ltb-true}
 use Rattle.number.specs.Nine.{nine}
 use Rattle.number.proofs.Nine.{all_nine}
@@ -79,9 +78,9 @@ dir_index-requires-in-Y c = allowed Y c.args.i c.requires
 pub returns-in-X : goal.returns-in-X
 unfolding directions
 returns-in-X c =
-    rw c.enum_told-1.given.1 (answered X c.args.i _ c.requires c.dir_index.ensures)
+    rw c.in-X.is (answered X c.args.i _ c.requires c.dir_index.ensures)
 
 pub returns-in-Y : goal.returns-in-Y
 unfolding directions
 returns-in-Y c =
-    rw c.enum_told-in-Y-1.given.1 (answered Y c.args.i _ c.requires c.dir_index-in-Y.ensures)
+    rw c.in-Y.is (answered Y c.args.i _ c.requires c.dir_index-in-Y.ensures)
