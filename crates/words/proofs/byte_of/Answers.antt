@@ -1,7 +1,6 @@
 -- `words::byte_of` meets its contract: a shift divides by a power of 256.
 use mathlib.Core.Path.{ap}
 use Prim.Native.Nat.{ℕ, ◌/◌, ◌%◌}
-use borrow.Author.Rules.{rules}
 use Rattle.words.proofs.Words.{shifted}
 use Rattle.words.proofs.byte_of.Goals as goal
 

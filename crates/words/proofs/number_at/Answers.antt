@@ -1,14 +1,8 @@
 -- `words::number_at` meets its contract. The loop's invariant: v is the number that the first k bytes spell.
-use Prim.Native.Nat.{◌+◌, ◌-◌, ◌<◌}
+use Prim.Native.Nat.{◌+◌, ◌<◌}
 use native.Mathlib.Omega.{arith}
-use borrow.Author.Rules.{rules}
-use Rattle.words.proofs.Words.{Spelled, spelled_none, spelled_more, spelled_all, fits_more}
+use Rattle.words.proofs.Words.{spelled_none, spelled_more, spelled_all, fits_more}
 use Rattle.words.proofs.number_at.Goals as goal
-
-byte : (c : tie.After-wide invariant-loop decreases-loop) → c.wide.result < 256
-byte c =
-    let a = c.before.before.before.before.before.args in
-    omega (arith, c.wide.ensures, c.before.shared-slice-known2.given (a.at + c.before.before.before.loop.k))
 
 pub overflow_mul-v : goal.overflow_mul-v
 overflow_mul-v c =
@@ -17,12 +11,14 @@ overflow_mul-v c =
 pub overflow_add-v : goal.overflow_add-v
 overflow_add-v c =
     let l = c.loop-k in
-    omega (arith, fits_more l.k l.v c.wide.result (omega arith) l.invariant.small (byte c))
+    let small : c.wide.result < 256 = omega (arith, c.wide.ensures, c.type_inv.b (c.args.at + l.k)) in
+    omega (arith, fits_more l.k l.v c.wide.result (omega arith) l.invariant.small small)
 
 pub loop-k-preserved : goal.loop-k-preserved
 loop-k-preserved c =
     let l = c.loop-k in
-    spelled_more _ _ _ l.v l.k c.wide.result (omega arith) l.invariant c.wide.ensures (byte c)
+    let small : c.wide.result < 256 = omega (arith, c.wide.ensures, c.type_inv.b (c.args.at + l.k)) in
+    spelled_more _ _ _ l.v l.k c.wide.result (omega arith) l.invariant c.wide.ensures small
 
 pub returns : goal.returns
 returns c = spelled_all _ _ _ _ c.loop-k.k (omega arith) c.loop-k.invariant

@@ -1,7 +1,5 @@
-use Prim.Native.Nat.{◌+◌, ◌-◌, ◌<◌}
-use native.Mathlib.Omega.{arith}
-use borrow.Author.Rules.{rules}
-use Rattle.words.proofs.Words.{Spelled, spelled_none, spelled_more, spelled_all, fits_more}
+use Prim.Native.Nat.{◌-◌}
+use Rattle.words.proofs.Words.{Spelled}
 use Rattle.words.proofs.number_at.Given as goal
 
 abbrev pub invariant-loop-k : goal.invariant-loop-k

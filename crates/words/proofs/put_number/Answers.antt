@@ -1,11 +1,7 @@
 -- `words::put_number` meets its contract. The loop's invariant: the first k bytes of v are written.
 use mathlib.Core.Path.{sym, ◌∙◌}
-use Prim.Native.Nat.{◌-◌, ◌≤◌}
 use native.Mathlib.Omega.{arith}
-use lib.ListN.{get_or}
-use Rattle.grid.specs.Writes.{Wrote}
 use Rattle.grid.proofs.Writes.{none, one_more, to_length}
-use Rattle.words.specs.Words.{big}
 use Rattle.words.proofs.Words.{big_length, big_at}
 use Rattle.words.proofs.put_number.Goals as goal
 

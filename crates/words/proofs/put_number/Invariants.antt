@@ -1,11 +1,7 @@
-use mathlib.Core.Path.{sym, ◌∙◌}
 use Prim.Native.Nat.{◌-◌, ◌≤◌}
-use native.Mathlib.Omega.{arith}
 use lib.ListN.{get_or}
 use Rattle.grid.specs.Writes.{Wrote}
-use Rattle.grid.proofs.Writes.{none, one_more, to_length}
 use Rattle.words.specs.Words.{big}
-use Rattle.words.proofs.Words.{big_length, big_at}
 use Rattle.words.proofs.put_number.Given as goal
 
 abbrev pub invariant-loop-k : goal.invariant-loop-k

@@ -1,10 +1,6 @@
 -- `words::read_words` meets its contract. The loop's invariant: the first k numbers are read.
-use Prim.Native.Nat.{◌+◌, ◌-◌, ◌*◌, ◌≤◌}
 use native.Mathlib.Omega.{arith}
-use lib.ListN.{length}
-use Rattle.grid.specs.Writes.{Wrote}
 use Rattle.grid.proofs.Writes.{none}
-use Rattle.words.specs.Words.{number_at}
 use Rattle.words.proofs.Laid.{entry_more, numbers_all}
 use Rattle.words.proofs.read_words.Goals as goal
 

@@ -1,10 +1,7 @@
 use Prim.Native.Nat.{◌+◌, ◌-◌, ◌*◌, ◌≤◌}
-use native.Mathlib.Omega.{arith}
 use lib.ListN.{length}
 use Rattle.grid.specs.Writes.{Wrote}
-use Rattle.grid.proofs.Writes.{none}
 use Rattle.words.specs.Words.{number_at}
-use Rattle.words.proofs.Laid.{entry_more, numbers_all}
 use Rattle.words.proofs.read_words.Given as goal
 
 abbrev pub invariant-loop-k : goal.invariant-loop-k

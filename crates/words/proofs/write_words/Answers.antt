@@ -1,11 +1,7 @@
 -- `words::write_words` meets its contract. The loop's invariant: the first k numbers are written.
 use mathlib.Core.Path.{refl}
-use Prim.Native.Nat.{◌-◌, ◌*◌, ◌≤◌}
 use native.Mathlib.Omega.{arith}
-use lib.ListN.{length, get_or}
-use Rattle.grid.specs.Writes.{Wrote}
 use Rattle.grid.proofs.Writes.{none, to_length}
-use Rattle.words.specs.Words.{bigs}
 use Rattle.words.proofs.Words.{bigs_length}
 use Rattle.words.proofs.Laid.{word_more}
 use Rattle.words.proofs.write_words.Goals as goal

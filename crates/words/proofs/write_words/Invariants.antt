@@ -1,12 +1,7 @@
-use mathlib.Core.Path.{refl}
 use Prim.Native.Nat.{◌-◌, ◌*◌, ◌≤◌}
-use native.Mathlib.Omega.{arith}
 use lib.ListN.{length, get_or}
 use Rattle.grid.specs.Writes.{Wrote}
-use Rattle.grid.proofs.Writes.{none, to_length}
 use Rattle.words.specs.Words.{bigs}
-use Rattle.words.proofs.Words.{bigs_length}
-use Rattle.words.proofs.Laid.{word_more}
 use Rattle.words.proofs.write_words.Given as goal
 
 abbrev pub invariant-loop-k : goal.invariant-loop-k

@@ -1,5 +1,4 @@
 -- `cell::bgk::bgk_cell` meets its contract: the source is nine zeros, since there is no force.
-use borrow.Author.Rules.{rules}
 use Rattle.cell.specs.Cell.{no_source}
 use Rattle.cell.proofs.Cells.{cell_unforced}
 use Rattle.cell.proofs.bgk.bgk_cell.Goals as goal

@@ -1,5 +1,4 @@
 -- `cell::bgk::bgk_cell_any` meets its contract: the calls give its parts, with a force and without.
-use borrow.Author.Rules.{rules}
 use Rattle.cell.specs.Cell.{no_source}
 use Rattle.cell.proofs.Cells.{cell_forced, cell_unforced, tested}
 use Rattle.cell.proofs.bgk.bgk_cell_any.Goals as goal

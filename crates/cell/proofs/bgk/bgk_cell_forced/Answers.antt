@@ -1,5 +1,4 @@
 -- `cell::bgk::bgk_cell_forced` meets its contract: the source is Guo's, since there is a force.
-use borrow.Author.Rules.{rules}
 use Rattle.cell.proofs.Cells.{cell_forced}
 use Rattle.cell.proofs.bgk.bgk_cell_forced.Goals as goal
 

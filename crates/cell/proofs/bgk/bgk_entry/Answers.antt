@@ -1,6 +1,5 @@
 -- `cell::bgk::bgk_entry` meets its contract: the operations are the definition's.
 use mathlib.Core.Path.{refl}
-use borrow.Author.Rules.{rules}
 use Rattle.cell.specs.Cell.{bgk_at}
 use Rattle.cell.proofs.bgk.bgk_entry.Goals as goal
 

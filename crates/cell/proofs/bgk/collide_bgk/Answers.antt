@@ -1,5 +1,4 @@
 -- `cell::bgk::collide_bgk` meets its contract: the nine entries are the nine calls'.
-use borrow.Author.Rules.{rules}
 use Rattle.number.proofs.Nine.{nine_of}
 use Rattle.cell.specs.Cell.{bgk}
 use Rattle.cell.proofs.bgk.collide_bgk.Goals as goal

@@ -1,5 +1,4 @@
 -- `cell::equilibrium::along` meets its contract: the operations are the definition's, at the components that the two calls give.
-use borrow.Author.Rules.{rules}
 use Rattle.cell.specs.Cell.{along_at}
 use Rattle.cell.proofs.equilibrium.along.Goals as goal
 

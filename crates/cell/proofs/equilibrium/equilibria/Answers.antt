@@ -1,5 +1,4 @@
 -- `cell::equilibrium::equilibria` meets its contract: the nine entries are the nine calls'.
-use borrow.Author.Rules.{rules}
 use Rattle.number.proofs.Nine.{nine_of}
 use Rattle.cell.specs.Cell.{equilibria_of}
 use Rattle.cell.proofs.equilibrium.equilibria.Goals as goal

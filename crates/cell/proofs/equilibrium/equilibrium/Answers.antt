@@ -1,5 +1,4 @@
 -- `cell::equilibrium::equilibrium` meets its contract: the operations are the definition's, at what the two calls give.
-use borrow.Author.Rules.{rules}
 use Rattle.cell.specs.Cell.{equilibrium_at}
 use Rattle.cell.proofs.equilibrium.equilibrium.Goals as goal
 

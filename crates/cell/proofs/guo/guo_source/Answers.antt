@@ -3,7 +3,6 @@ use mathlib.Core.Path.{◌≡◌, ap, ◌∙◌}
 use mathlib.Core.List.{List}
 use Prim.Native.Nat.{ℕ, ◌<◌}
 use lib.Ieee.{Float, nan}
-use borrow.Author.Rules.{rules}
 use Rattle.number.specs.Nine.{at}
 use Rattle.number.proofs.Nine.{at_nine}
 use Rattle.cell.specs.Cell.{along_at, along_force, guo_at}

@@ -1,5 +1,4 @@
 -- `cell::guo::guo_sources` meets its contract: the nine entries are the nine calls'.
-use borrow.Author.Rules.{rules}
 use Rattle.number.proofs.Nine.{nine_of}
 use Rattle.cell.specs.Cell.{guo_sources}
 use Rattle.cell.proofs.guo.guo_sources.Goals as goal

@@ -1,5 +1,4 @@
 -- `cell::macroscopic::collision_moments` meets its contract: the operations are the definition's, at what the four calls give.
-use borrow.Author.Rules.{rules}
 use Rattle.cell.specs.Cell.{collision_moments}
 use Rattle.cell.proofs.macroscopic.collision_moments.Goals as goal
 

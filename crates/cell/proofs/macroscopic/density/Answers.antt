@@ -1,6 +1,5 @@
 -- `cell::macroscopic::density` meets its contract: the sums are `sum_to`'s.
 use mathlib.Core.Path.{refl}
-use borrow.Author.Rules.{rules}
 use Rattle.number.specs.Nine.{sum_to}
 use Rattle.cell.specs.Cell.{density_of}
 use Rattle.cell.proofs.macroscopic.density.Goals as goal

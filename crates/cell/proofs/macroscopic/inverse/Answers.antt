@@ -1,5 +1,4 @@
 -- `cell::macroscopic::inverse` meets its contract: each arm returns what `cond` picks where the test is as it was found.
-use borrow.Author.Rules.{rules}
 use Rattle.cell.specs.Cell.{inverse_of}
 use Rattle.cell.proofs.macroscopic.inverse.Goals as goal
 

@@ -1,5 +1,4 @@
 -- `cell::macroscopic::momentum_x` meets its contract: it is the sum over the nine components that the calls give.
-use borrow.Author.Rules.{rules}
 use Rattle.number.proofs.Nine.{nine_of}
 use Rattle.lattice.specs.Lattice.{ex}
 use Rattle.cell.specs.Cell.{momentum_x}

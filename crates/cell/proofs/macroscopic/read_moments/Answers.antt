@@ -1,5 +1,4 @@
 -- `cell::macroscopic::read_moments` meets its contract: each arm returns what `cond` picks where the test is as it was found.
-use borrow.Author.Rules.{rules}
 use Rattle.cell.specs.Cell.{read_moments}
 use Rattle.cell.proofs.macroscopic.read_moments.Goals as goal
 

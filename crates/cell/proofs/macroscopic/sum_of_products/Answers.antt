@@ -1,6 +1,5 @@
 -- `cell::macroscopic::sum_of_products` meets its contract: the sums are `sum_to`'s.
 use mathlib.Core.Path.{refl}
-use borrow.Author.Rules.{rules}
 use Rattle.number.specs.Nine.{sum_to}
 use Rattle.cell.specs.Cell.{sum_of_products}
 use Rattle.cell.proofs.macroscopic.sum_of_products.Goals as goal

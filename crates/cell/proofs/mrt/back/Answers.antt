@@ -1,6 +1,5 @@
 -- `cell::mrt::back` meets its contract: the sums are `sum_to`'s.
 use mathlib.Core.Path.{refl}
-use borrow.Author.Rules.{rules}
 use Rattle.number.specs.Nine.{sum_to}
 use Rattle.cell.specs.Cell.{back_at}
 use Rattle.cell.proofs.mrt.back.Goals as goal

@@ -1,5 +1,4 @@
 -- `cell::mrt::collide_mrt` meets its contract: the nine entries are the nine calls', at M and its norms.
-use borrow.Author.Rules.{rules}
 use Rattle.number.proofs.Nine.{nine_of}
 use Rattle.cell.specs.Cell.{back_at, mrt}
 use Rattle.cell.proofs.mrt.collide_mrt.Goals as goal

@@ -1,5 +1,4 @@
 -- `cell::mrt::mrt_cell` meets its contract: the calls give its parts, with a force and without.
-use borrow.Author.Rules.{rules}
 use Rattle.cell.specs.Cell.{no_source}
 use Rattle.cell.proofs.Cells.{cell_forced, cell_unforced, tested}
 use Rattle.cell.proofs.mrt.mrt_cell.Goals as goal

@@ -1,5 +1,4 @@
 -- `cell::mrt::relaxed` meets its contract: the operations are the definition's, at what the three calls give.
-use borrow.Author.Rules.{rules}
 use Rattle.cell.specs.Cell.{relaxed_by}
 use Rattle.cell.proofs.mrt.relaxed.Goals as goal
 

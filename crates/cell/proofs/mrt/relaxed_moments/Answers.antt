@@ -1,7 +1,6 @@
 -- `cell::mrt::relaxed_moments` meets its contract: the nine entries are the nine calls', at the rows of M.
 use mathlib.Core.List.{[]}
 use lib.ListN.{get_or}
-use borrow.Author.Rules.{rules}
 use Rattle.number.specs.Nine.{at}
 use Rattle.number.proofs.Nine.{nine_of}
 use Rattle.cell.specs.Cell.{moment_rates, relaxed_by, relaxed_moments}

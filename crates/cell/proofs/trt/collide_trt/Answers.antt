@@ -1,5 +1,4 @@
 -- `cell::trt::collide_trt` meets its contract: the source is added to the relaxed populations.
-use borrow.Author.Rules.{rules}
 use Rattle.cell.proofs.Cells.{both_halves}
 use Rattle.cell.proofs.trt.collide_trt.Goals as goal
 

@@ -1,5 +1,4 @@
 -- `cell::trt::trt_cell_forced` meets its contract: the source is Guo's, since there is a force.
-use borrow.Author.Rules.{rules}
 use Rattle.cell.proofs.Cells.{cell_forced, both_halves}
 use Rattle.cell.proofs.trt.trt_cell_forced.Goals as goal
 

@@ -1,5 +1,4 @@
 -- `cell::trt::trt_relaxed` meets its contract: the nine entries are the nine calls'.
-use borrow.Author.Rules.{rules}
 use Rattle.number.proofs.Nine.{nine_of}
 use Rattle.cell.specs.Cell.{trt_relaxed}
 use Rattle.cell.proofs.trt.trt_relaxed.Goals as goal

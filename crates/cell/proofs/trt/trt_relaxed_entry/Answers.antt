@@ -1,5 +1,4 @@
 -- `cell::trt::trt_relaxed_entry` meets its contract: the operations are the definition's, at the opposite that the call gives.
-use borrow.Author.Rules.{rules}
 use Rattle.cell.specs.Cell.{trt_relaxed_at}
 use Rattle.cell.proofs.trt.trt_relaxed_entry.Goals as goal
 
