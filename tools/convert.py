@@ -113,7 +113,7 @@ class Function:
         while place in self.places and place:
             name, up, step = self.places[place][:3]
             if step and step[0]:
-                found.setdefault(flat(step[0]), step[1])
+                found.setdefault(flat(step[0]).lower(), step[1])
             place = up
         return found
 
@@ -195,7 +195,7 @@ class Function:
             if step in ("well-formed", "well_formed"):
                 parts[0] = "well_formed"
             elif step not in ("args", "requires", "ranges"):
-                new = steps.get(flat(step))
+                new = steps.get(flat(step).lower())
                 if new is None:
                     self.left.append(f"{self.fn}: no step {step} on the way to {place}; there are {sorted(steps)}")
                 else:
