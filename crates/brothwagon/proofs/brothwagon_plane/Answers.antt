@@ -11,9 +11,7 @@ use Rattle.settings.specs.Refusals as Call
 use Rattle.settings.specs.Refusals.{refusal}
 use Rattle.settings.specs.Outcome.{answer}
 use Rattle.settings.proofs.Laws.{known}
-use borrow.Author.Rules.{rules}
-use Rattle.brothwagon.proofs.brothwagon_plane.Statement.{statement}
-use Rattle.brothwagon.proofs.brothwagon_plane.Tie as tie
+use Rattle.brothwagon.proofs.brothwagon_plane.Goals as goal
 
 scaled : (number i n : ℕ) → i * answer number n 0 ≡ answer number (i * n) 0
 unfolding answer
@@ -33,15 +31,9 @@ fits s f i = go (eqb (refusal (Call.plane s f i)) 0) refl
         omega (arith, k.0.few, row_in (s.nx * s.ny) 9 i k.1.1.0)
     go false e = omega arith
 
-mul-t9 : tie.Need-overflow-mul-t9
-mul-t9 c = record { fits = rw c.plane.ensures.size (fits c.before.before.settings-of.result _ _) }
+pub overflow_mul-part : goal.overflow_mul-part
+overflow_mul-part c = record { fits = rw c.plane-count.ensures.size (fits c.settings_of-s.result _ _) }
 
-returns : tie.Need-returns
+pub returns : goal.returns
 returns c =
-    let read = c.before in
-    let asked = read.before in
-    rw (asked.plane-refusal.ensures, read.plane.ensures.size, asked.before.settings-of.ensures) (rw (scaled (refusal (Call.plane _ _ _))))
-
-pub brothwagon-plane-spec : {M : Type 1} → statement M
-brothwagon-plane-spec =
-    tie.close (tie.spec (λ c κs. search rules) (λ c κs. search rules) (λ c κs. search rules) mul-t9 returns)
+    rw (c.plane_refusal-number.ensures, c.plane-count.ensures.size, c.settings_of-s.ensures) (rw (scaled (refusal (Call.plane _ _ _))))
