@@ -93,6 +93,10 @@ bgk_rates tau =
     let omega = c1 ⊘ tau in
     record { omega = omega; pref = c1 ⊖ c½ ⊗ omega }
 
+-- the minus rate of a plus rate and a magic number Λ: 1/(Λ/(1/ω₊ - 0.5) + 0.5)
+unfoldable pub trt_omega_minus : Float → Float → Float
+trt_omega_minus omega magic = c1 ⊘ (magic ⊘ (c1 ⊘ omega ⊖ c½) ⊕ c½)
+
 -- with the minus rate given
 unfoldable pub trt_rates : Float → Float → TrtRates
 trt_rates tau rate =

@@ -1,6 +1,6 @@
 // TRT: the even and the odd part about the opposite direction, each at its own rate. Cells as of BGK.
 ghost use Rattle.std.specs.Prelude.{◌≡◌, true, false, ◌<◌};
-ghost use Rattle.cell.specs.Cell.{forced_by, trt_rates, trt_relaxed_at, trt_relaxed, trt_sourced_at, trt_sourced, trt, cell_by};
+ghost use Rattle.cell.specs.Cell.{forced_by, trt_omega_minus, trt_rates, trt_relaxed_at, trt_relaxed, trt_sourced_at, trt_sourced, trt, cell_by};
 
 use crate::equilibrium::equilibria;
 use crate::guo::{along_force, forced, guo_sources};
@@ -13,6 +13,14 @@ pub struct TrtRates {
     pub omega_m: f64,
     pub pref_p: f64,
     pub pref_m: f64,
+}
+
+// The minus rate that a magic number gives. Where lambda_plus is 0, as at viscosity 0, the rate is meant to be 0.
+pub fn trt_omega_minus(omega_plus: f64, magic: f64) -> f64
+    ensures { result ≡ trt_omega_minus omega_plus magic }
+{
+    let lambda_plus = 1.0 / omega_plus - 0.5;
+    1.0 / (magic / lambda_plus + 0.5)
 }
 
 pub fn trt_rates(tau: f64, rate: f64) -> TrtRates

@@ -1,3 +1,4 @@
 pub mod Laws
 pub mod Order
 pub mod Outcome
+pub mod Magic
