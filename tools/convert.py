@@ -199,7 +199,7 @@ class Function:
                 if new is None:
                     self.left.append(f"{self.fn}: no step {step} on the way to {place}; there are {sorted(steps)}")
                 else:
-                    if new.startswith("enum_told") and parts[1:3] == ["given", "1"]:
+                    if parts[1:3] == ["given", "1"]:
                         arm = next((n for n in steps.values() if n.startswith("in-")), None)
                         if arm:
                             return f"{ctx}.{arm}.is"
@@ -325,6 +325,8 @@ def main(argv):
             if new is None:
                 fn.left.append(f"{fn.fn}: no goal {old} now; there are {[n for o, n in fn.info['needs']]}, settled {fn.info['settled']}")
                 answers.append("-- left: " + b.replace("\n", "\n-- "))
+                continue
+            if re.fullmatch(r"(--[^\n]*\n)*[^\n]*\n[^\n=]*=\s*(search rules|omega arith)\s*", b):
                 continue
             t = fn.goal_text(new, place, b, name)
             answers.append(t if t else "-- left: " + b.replace("\n", "\n-- "))

@@ -1,0 +1,12 @@
+-- `settings::reverse_refusal` meets its contract: each test's number stands before the later ones, in the call's own order.
+use Rattle.settings.proofs.reverse_refusal.Goals as goal
+
+pub returns : goal.returns
+returns c =
+    rw (
+      c.populations.ensures,
+      c.lengths.ensures,
+      c.faces-n.ensures,
+      c.kinds.ensures,
+      c.losses.ensures,
+    )

@@ -1,0 +1,10 @@
+-- `settings::velocity_refusal` meets its contract: each test's number stands before the later ones, in the call's own order.
+use Rattle.settings.proofs.velocity_refusal.Goals as goal
+
+pub returns : goal.returns
+returns c =
+    rw (
+      c.populations.ensures,
+      c.moments.ensures,
+      c.place.ensures,
+    )
