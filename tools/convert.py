@@ -45,6 +45,7 @@ def labels():
             req = re.findall(r"\brequires\b\*? ?(\w*) ?\{", head)
             ens = re.findall(r"\bensures\b\*? ?(\w*) ?\{", head)
             found.setdefault(m[1], []).append((req, ens))
+            found.setdefault((p.parts[1], m[1]), []).append((req, ens))
     return found
 
 
@@ -120,7 +121,7 @@ class Function:
     def parse(self):
         bs = blocks(self.text)
         self.comment = ""
-        self.uses, self.helpers, self.goals, self.invs, self.args = [], [], [], {}, None
+        self.uses, self.helpers, self.goals, self.invs, self.args, self.inner = [], [], [], {}, None, []
         for b in bs:
             lines = [l for l in b.split("\n") if l.strip()]
             rest = []
@@ -158,8 +159,36 @@ class Function:
                 self.invs[name] = b
             elif re.search(r":\s*tie\.Need-", sig):
                 self.goals.append((name, re.search(r"tie\.Need-(" + WORD + ")", sig)[1], b))
+            elif re.search(r":\s*\(" + WORD + r" : tie\.", "\n".join(body)):
+                self.inner.append((name, b))
             else:
                 self.helpers.append(b)
+
+    def inlined(self):
+        """Of each helper over a context: its name, its type, its equation over the flat context, and its unfolding lines."""
+        out = []
+        for name, b in self.inner:
+            lines = [l for l in b.split("\n") if not l.startswith("--")]
+            unf = [l for l in lines if l.startswith("unfolding ")]
+            text = "\n".join(l for l in lines if not l.startswith("unfolding "))
+            m = re.match(r"(?:pub )?" + re.escape(name) + r"\s*:\s*\((" + WORD + r") : tie\.(" + WORD + r")[^)]*\)\s*→(.*?)\n" + re.escape(name) + r"\s+(" + WORD + r")((?:\s+(?!=\s)" + WORD + r")*)\s*=(.*)", text, re.S)
+            if not m:
+                self.left.append(f"{self.fn}: helper {name} not read")
+                continue
+            place = next((p for p in self.places if flat(p).lower() == flat(m[2]).lower()), None)
+            if place is None:
+                self.left.append(f"{self.fn}: helper {name} at {m[2]}")
+            typ, body = m[3].strip(), m[6].strip()
+            for other, *_ in self.inner:
+                body = re.sub(r"\b" + re.escape(other) + r" " + re.escape(m[4]) + r"(?:\.before)*(?![\w.'-])", other, body)
+            typ = self.paths(typ, [place], m[1])
+            body = self.paths(body, [place], m[4])
+            typ = re.sub(r"(?<![\w.'-])" + re.escape(m[1]) + r"\.", "c.", typ)
+            body = re.sub(r"(?<![\w.'-])" + re.escape(m[4]) + r"\.", "c.", body)
+            if m[5].strip():
+                body = "λ" + m[5] + ". " + body
+            out.append((name, typ, body, unf))
+        return out
 
     def need(self, old, decl=None):
         needs = self.info["needs"]
@@ -207,14 +236,20 @@ class Function:
                     fn = flat(step).rstrip("0123456789")
                     self.clause(parts, fn)
             if parts[0] == "requires":
-                req = (self.marks.get(self.fn) or [([], [])])[0][0]
+                req = (self.marks.get((self.crate, self.fn)) or [([], [])])[0][0]
                 if len(req) > 1 and len(parts) > 1 and parts[1].isdigit() and int(parts[1]) < len(req):
                     parts[1] = req[int(parts[1])]
-            return ctx + "." + ".".join(parts)
+            return parts[0] if parts[0].startswith("(") else ctx + "." + ".".join(parts)
 
         return re.sub(r"(?<![\w.'₀-])(" + names + r")((?:\.before)*)((?:\.(?!before\b)[\w'·₀-]+)*)(?![\w'])", turn, body)
 
     def clause(self, parts, fn):
+        if len(parts) == 2 and parts[1] == "ensures":
+            found = {tuple(e) for r, e in self.marks.get(fn, []) if len(e) > 1}
+            if len(found) == 1:
+                step = parts[0]
+                parts[:] = ["(" + ", ".join(f"c.{step}.ensures.{n}" for n in found.pop()) + ")"]
+            return
         if len(parts) < 3 or parts[1] != "ensures" or not parts[2].isdigit():
             return
         found = {tuple(e) for r, e in self.marks.get(fn, []) if len(e) > 1}
@@ -240,18 +275,35 @@ class Function:
         body = m[2]
         if params[:1] != ["c"]:
             self.left.append(f"{self.fn}: {name} takes {params}")
+        used = []
+        for helper in reversed(self.inlined()):
+            if re.search(r"(?<![\w.'-])" + re.escape(helper[0]) + r"(?![\w'-])", body + " ".join(u[2] for u in used)):
+                used.insert(0, helper)
+                unf += [u for u in helper[3] if u not in unf]
+        for helper in used:
+            body = re.sub(r"(?<![\w.'-])" + re.escape(helper[0]) + r" " + WORD + r"(?:\.before)*(?![\w.'-])", helper[0], body)
+            body = body.replace(f"({helper[0]})", helper[0])
         body = self.paths(body, place, params[0] if params else "c")
-        ens = (self.marks.get(self.fn) or [([], [])])[0][1]
+        body = "".join(f" let {n} : {t} = {b} in\n" for n, t, b, _ in used) + body
+        ens = (self.marks.get((self.crate, self.fn)) or [([], [])])[0][1]
         if new.startswith("returns") and len(ens) > 1:
             body = self.record(body, ens)
+        m = re.match(r"(\w+)-(?:[^\s]*-)?requires", new)
+        if m:
+            found = {tuple(r) for r, e in self.marks.get(m[1], []) if len(r) > 1}
+            if len(found) == 1:
+                body = self.record(body, found.pop())
+            elif found:
+                self.left.append(f"{self.fn}: {new}: which clauses?")
         head = params[0] if params else "c"
         return "\n".join(comments + [f"pub {new} : goal.{new}"] + unf + [f"{new} {head} ={body}"])
 
     def record(self, body, names):
         """A tuple at the end of a body, as a record by the clauses' labels."""
         t = body.rstrip()
+        whole = f" let both =\n{body}\n in record {{ " + " ".join(f"{n} = both.{k};" for k, n in enumerate(names)) + " }"
         if not t.endswith(")"):
-            return body
+            return body if re.fullmatch(r"\s*(search|cc|omega|grind).*", body, re.S) else whole
         depth = 0
         for i in range(len(t) - 1, -1, -1):
             if t[i] == ")":
@@ -262,7 +314,7 @@ class Function:
                     break
         before = t[:i].rstrip()
         if before and not before.endswith(" in"):
-            return body
+            return whole
         parts, depth, cur = [], 0, ""
         for ch in t[i + 1 : -1]:
             if ch in "({[":
@@ -277,7 +329,7 @@ class Function:
         if cur.strip():
             parts.append(cur.strip())
         if len(parts) != len(names) or not all(names):
-            return body
+            return whole
         return t[:i] + "record { " + " ".join(f"{n} = {p};" for n, p in zip(names, parts)) + " }"
 
     def inv_text(self, name, b):
@@ -317,6 +369,9 @@ def main(argv):
             continue
         fn = Function(crate, str(path), names[key], marks)
         fn.parse()
+        if fn.args is None:
+            print(f"left: {path}: walked by hand")
+            continue
         answers, texts = [], []
         for name, old, b in fn.goals:
             if flat(old).startswith("same_length"):
@@ -363,10 +418,9 @@ def main(argv):
                         m = re.match(r"^\(λ ([^.]*)\.(.*)\)$", o, re.S)
                         if m:
                             v = m[1].split()[0]
-                            body = fn.paths(m[2].strip(), pl, v)
-                            t = f"pub {n} : goal.{n}\n{n} {v} = {body}\n"
-                            if t not in text:
-                                text += "\n" + t
+                            t = fn.goal_text(n, pl, f"{n} : tie.Need-{n}\n{n} {v} = {m[2].strip()}", n)
+                            if t and t not in text:
+                                text += "\n" + t + "\n"
                         else:
                             fn.left.append(f"{fn.fn}: argument {o} for {n}")
                 else:

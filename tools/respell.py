@@ -24,14 +24,17 @@ def snake(name):
 
 def defined(text, answers):
     """The names that a file of specs/ or proofs/ defines; of a function's own proof, those that answer no goal."""
+    module = False
     for line in text.splitlines():
+        if line and not line[0].isspace() and not line.startswith("--"):
+            module = line.startswith("module ")
         m = DEFINED.match(line)
         if not m or m[3] or line.lstrip().startswith("--"):
             continue
         indent, name = len(m[1]), m[4]
         if answers and ("tie." in line or "statement" in line or indent):
             continue
-        if indent and not line.lstrip().startswith("pub "):
+        if indent and not (module and indent == 2) and not line.lstrip().startswith("pub ") and not re.search(r"[a-z][A-Z]", name):
             continue
         yield name
 

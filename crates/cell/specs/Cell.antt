@@ -116,9 +116,9 @@ bgk r f feq src = nine (bgk_at r f feq src)
 unfoldable pub trt_relaxed_at : TrtRates → List Float → List Float → ℕ → Float
 trt_relaxed_at r f feq i =
     let o = OPP i in
-    let neqP = c½ ⊗ ((at f i ⊖ at feq i) ⊕ (at f o ⊖ at feq o)) in
-    let neqM = c½ ⊗ ((at f i ⊖ at feq i) ⊖ (at f o ⊖ at feq o)) in
-    at f i ⊖ r.omega_p ⊗ neqP ⊖ r.omega_m ⊗ neqM
+    let neq_p = c½ ⊗ ((at f i ⊖ at feq i) ⊕ (at f o ⊖ at feq o)) in
+    let neq_m = c½ ⊗ ((at f i ⊖ at feq i) ⊖ (at f o ⊖ at feq o)) in
+    at f i ⊖ r.omega_p ⊗ neq_p ⊖ r.omega_m ⊗ neq_m
 
 unfoldable pub trt_relaxed : TrtRates → List Float → List Float → List Float
 trt_relaxed r f feq = nine (trt_relaxed_at r f feq)
@@ -127,9 +127,9 @@ trt_relaxed r f feq = nine (trt_relaxed_at r f feq)
 unfoldable pub trt_sourced_at : TrtRates → List Float → List Float → ℕ → Float
 trt_sourced_at r kept src i =
     let o = OPP i in
-    let srcP = c½ ⊗ (at src i ⊕ at src o) in
-    let srcM = c½ ⊗ (at src i ⊖ at src o) in
-    at kept i ⊕ r.pref_p ⊗ srcP ⊕ r.pref_m ⊗ srcM
+    let src_p = c½ ⊗ (at src i ⊕ at src o) in
+    let src_m = c½ ⊗ (at src i ⊖ at src o) in
+    at kept i ⊕ r.pref_p ⊗ src_p ⊕ r.pref_m ⊗ src_m
 
 unfoldable pub trt_sourced : TrtRates → List Float → List Float → List Float
 trt_sourced r kept src = nine (trt_sourced_at r kept src)

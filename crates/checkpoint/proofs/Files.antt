@@ -69,8 +69,8 @@ module _ (nx ny step : ℕ) (f : List ℕ) (g : Grid nx ny) (size : length f ≡
   file = checkpoint_of nx ny step f
 
   -- a part of the head, by its bytes
-  read-part : (n at v : ℕ) → at + n ≤ 13 → number_at n file at ≡ number_at n (big n v) 0 → v < 256 ^ n → part_at n file at ≡ v
-  read-part n at v in_head same fits =
+  read_part : (n at v : ℕ) → at + n ≤ 13 → number_at n file at ≡ number_at n (big n v) 0 → v < 256 ^ n → part_at n file at ≡ v
+  read_part n at v in_head same fits =
       part_of n file at (omega (arith, file_length nx ny step f size)) ∙ same ∙ number_of_lem n v fits
 
   pub head_of_file : head_of file ≡ heading nx ny step
@@ -78,11 +78,11 @@ module _ (nx ny step : ℕ) (f : List ℕ) (g : Grid nx ny) (size : length f ≡
   head_of_file =
       rw (
         file_length nx ny step f size,
-        read-part 4 0 (count_of nx ny) (omega arith) refl (omega (arith, g.few)),
-        read-part 1 4 1 (omega arith) refl (omega arith),
-        read-part 2 5 nx (omega arith) refl (omega (arith, g.x_most)),
-        read-part 2 7 ny (omega arith) refl (omega (arith, g.y_most)),
-        read-part 4 9 step (omega arith) refl late,
+        read_part 4 0 (count_of nx ny) (omega arith) refl (omega (arith, g.few)),
+        read_part 1 4 1 (omega arith) refl (omega arith),
+        read_part 2 5 nx (omega arith) refl (omega (arith, g.x_most)),
+        read_part 2 7 ny (omega arith) refl (omega (arith, g.y_most)),
+        read_part 4 9 step (omega arith) refl late,
       )
 
   pub entries_of_file : Patterns f → entries_of file ≡ f

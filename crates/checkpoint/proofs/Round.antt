@@ -27,7 +27,7 @@ stored nx ny step = record { number = 0; nx = nx; ny = ny; step = step }
 
 -- the head of a written file is refused nowhere
 heading_passes : (nx ny step len : ℕ) → sides_bad nx ny ≡ false → len ≡ 9 * (nx * ny)
-    → refusal (Call.readCheckpoint (heading nx ny step) len) ≡ 0
+    → refusal (Call.read_checkpoint (heading nx ny step) len) ≡ 0
 unfolding count_bad bytes_bad length_bad
 heading_passes nx ny step len good fits =
     let size = 13 + 72 * (nx * ny) in
@@ -41,21 +41,21 @@ heading_passes nx ny step len good fits =
     )
 
 -- what is read where the number is 0
-read_done : (file lent : List ℕ) → refusal (Call.readCheckpoint (head_of file) (length lent)) ≡ 0
+read_done : (file lent : List ℕ) → refusal (Call.read_checkpoint (head_of file) (length lent)) ≡ 0
     → let h = head_of file in checkpoint_read file lent ≡ read (stored h.nx h.ny h.step) (entries_of file)
 read_done file lent zero = sym (ap₂ read (answered _ refl zero refl) (answered _ refl zero refl))
 
 pub read_back : (s : Settings) (step : ℕ) (f file lent : List ℕ) → step < 2 ^ 32 → Patterns f
-    → refusal (Call.writeCheckpoint s (length f) (length file)) ≡ 0 → length lent ≡ length f
+    → refusal (Call.write_checkpoint s (length f) (length file)) ≡ 0 → length lent ≡ length f
     → checkpoint_read (checkpoint_written s step f file).buffer lent ≡ read (stored s.nx s.ny step) f
 read_back s step f file lent late bits zero fits =
     let good = (none (sides_bad s.nx s.ny) 1 _ tt zero).0 in
-    let size = (known (Call.writeCheckpoint s (length f) (length file)) zero).1.0.size in
+    let size = (known (Call.write_checkpoint s (length f) (length file)) zero).1.0.size in
     let grid = sides_ok s.nx s.ny good in
     let made = checkpoint_of s.nx s.ny step f in
     let wrote : (checkpoint_written s step f file).buffer ≡ made = sym (ap (λ (w : Written). w.buffer) (answered _ refl zero refl)) in
     let head = head_of_file s.nx s.ny step f grid size late in
-    let passes = ap (λ (h : Head). refusal (Call.readCheckpoint h (length lent))) head
+    let passes = ap (λ (h : Head). refusal (Call.read_checkpoint h (length lent))) head
     ∙ heading_passes s.nx s.ny step (length lent) good (fits ∙ size) in
     ap (λ (b : List ℕ). checkpoint_read b lent) wrote
     ∙ read_done made lent passes
@@ -63,11 +63,11 @@ read_back s step f file lent late bits zero fits =
 
 -- ---- AN ACCEPTED FILE IS THE FILE OF WHAT WAS READ
 
-module _ (file lent : List ℕ) (bytes : Bytes file) (zero : refusal (Call.readCheckpoint (head_of file) (length lent)) ≡ 0) where
-  its-file : let h = head_of file in file ≡ checkpoint_of h.nx h.ny h.step (entries_of file)
-  its-file =
+module _ (file lent : List ℕ) (bytes : Bytes file) (zero : refusal (Call.read_checkpoint (head_of file) (length lent)) ≡ 0) where
+  its_file : let h = head_of file in file ≡ checkpoint_of h.nx h.ny h.step (entries_of file)
+  its_file =
       let h = head_of file in
-      let k = known (Call.readCheckpoint h (length lent)) zero in
+      let k = known (Call.read_checkpoint h (length lent)) zero in
       let counted = k.1.1.1.1.0 in
       let long : 13 ≤ length file = omega (arith, counted.size) in
       file_laid h.nx h.ny h.step file file file (entries_of file) counted.size (numbers_length 8 _ file 13)
@@ -81,13 +81,13 @@ module _ (file lent : List ℕ) (bytes : Bytes file) (zero : refusal (Call.readC
 
   pub accepted : let r = checkpoint_read file lent in file ≡ checkpoint_of r.stored.nx r.stored.ny r.stored.step r.f
   accepted =
-      its-file
+      its_file
       ∙ ap (λ (r : Read). checkpoint_of r.stored.nx r.stored.ny r.stored.step r.f) (sym (read_done file lent zero))
 
 -- so accepted files with equal content are equal bytes
 pub same_bytes : (file lent file' lent' : List ℕ) → Bytes file → Bytes file'
-    → refusal (Call.readCheckpoint (head_of file) (length lent)) ≡ 0
-    → refusal (Call.readCheckpoint (head_of file') (length lent')) ≡ 0
+    → refusal (Call.read_checkpoint (head_of file) (length lent)) ≡ 0
+    → refusal (Call.read_checkpoint (head_of file') (length lent')) ≡ 0
     → checkpoint_read file lent ≡ checkpoint_read file' lent' → file ≡ file'
 same_bytes file lent file' lent' bytes bytes' zero zero' same =
     accepted file lent bytes zero
@@ -108,7 +108,7 @@ stops false false false false true later = refl
 stops false false false false false later = refl
 
 pub question_first : (h : Head) (len : ℕ) → let asked = refusal (Call.checkpoint_sides h) in
-    refusal (Call.readCheckpoint h len) ≡ answer asked (cond (length_bad h.nx h.ny 9 len) 2 0) asked
+    refusal (Call.read_checkpoint h len) ≡ answer asked (cond (length_bad h.nx h.ny 9 len) 2 0) asked
 question_first h len =
     stops (short_bad h.length) (version_bad h.version) (cut_bad h) (sides_bad h.nx h.ny) (count_bad h) (cond (length_bad h.nx h.ny 9 len) 2 0)
 
@@ -120,6 +120,6 @@ asked_then_read file lent zero fits =
     let h = head_of file in
     let is : checkpoint_sides file ≡ stored h.nx h.ny h.step = sym (answered _ refl zero refl) in
     let size : length lent ≡ 9 * (h.nx * h.ny) = fits ∙ ap (λ (r : Stored). 9 * (r.nx * r.ny)) is in
-    let passes : refusal (Call.readCheckpoint h (length lent)) ≡ 0 =
+    let passes : refusal (Call.read_checkpoint h (length lent)) ≡ 0 =
     question_first h (length lent) ∙ sym (answered _ refl zero (rw (eq-eqb (length lent) (9 * (h.nx * h.ny)) size))) in
     read_done file lent passes ∙ ap (λ (r : Stored). read r (entries_of file)) (sym is)

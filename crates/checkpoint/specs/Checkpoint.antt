@@ -41,7 +41,7 @@ entries_of file = let h = head_of file in numbers_at 8 (9 * (h.nx * h.ny)) file 
 
 abbrev pub checkpoint_written : Settings → ℕ → List ℕ → List ℕ → Written
 checkpoint_written s step f file =
-    written (refusal (Call.writeCheckpoint s (length f) (length file))) file (checkpoint_of s.nx s.ny step f)
+    written (refusal (Call.write_checkpoint s (length f) (length file))) file (checkpoint_of s.nx s.ny step f)
 
 -- the sides and the step number of a file, and zeros where it is refused
 abbrev pub told : ℕ → Head → Stored
@@ -63,5 +63,5 @@ read stored f = record { stored = stored; f = f }
 abbrev pub checkpoint_read : List ℕ → List ℕ → Read
 checkpoint_read file f =
     let h = head_of file in
-    let number = refusal (Call.readCheckpoint h (length f)) in
+    let number = refusal (Call.read_checkpoint h (length f)) in
     read (told number h) (answer number (entries_of file) f)

@@ -59,12 +59,12 @@ record PutFirst (d e : List ℕ) (n c m : ℕ) (v : ℕ → ℕ) : Type 0 where
   others : (b i : ℕ) → b < n → (b ≡ c → ⊥) → get_or e (b + i * n) 0 ≡ get_or d (b + i * n) 0
 
 module _ (d : List ℕ) (n c : ℕ) (v : ℕ → ℕ) (h : Holds d n c) where
-  put-none : PutFirst d d n c 0 v
-  put-none = record { size = refl; written = below_none _; others = λ b i l o. refl }
+  put_none : PutFirst d d n c 0 v
+  put_none = record { size = refl; written = below_none _; others = λ b i l o. refl }
 
   -- one entry more
-  put-more : (m : ℕ) {e g : List ℕ} → m < 9 → PutFirst d e n c m v → g ≡ set e (c + m * n) (v m) → PutFirst d g n c (m + 1) v
-  put-more m {e} {g} hm w is =
+  put_more : (m : ℕ) {e g : List ℕ} → m < 9 → PutFirst d e n c m v → g ≡ set e (c + m * n) (v m) → PutFirst d g n c (m + 1) v
+  put_more m {e} {g} hm w is =
       let hc = h.cell in
       let fits : c + m * n < length e = omega (arith, cell_in n c m hc hm, h.size, w.size) in
       rw is
@@ -89,15 +89,15 @@ module _ (d : List ℕ) (n c : ℕ) (v : ℕ → ℕ) (h : Holds d n c) where
       → e8 ≡ set e7 (c + 8 * n) (v 8)
       → Put d e8 n c v
   put_nine p0 p1 p2 p3 p4 p5 p6 p7 p8 =
-      let w1 = put-more 0 (omega arith) put-none p0 in
-      let w2 = put-more 1 (omega arith) w1 p1 in
-      let w3 = put-more 2 (omega arith) w2 p2 in
-      let w4 = put-more 3 (omega arith) w3 p3 in
-      let w5 = put-more 4 (omega arith) w4 p4 in
-      let w6 = put-more 5 (omega arith) w5 p5 in
-      let w7 = put-more 6 (omega arith) w6 p6 in
-      let w8 = put-more 7 (omega arith) w7 p7 in
-      let w9 = put-more 8 (omega arith) w8 p8 in
+      let w1 = put_more 0 (omega arith) put_none p0 in
+      let w2 = put_more 1 (omega arith) w1 p1 in
+      let w3 = put_more 2 (omega arith) w2 p2 in
+      let w4 = put_more 3 (omega arith) w3 p3 in
+      let w5 = put_more 4 (omega arith) w4 p4 in
+      let w6 = put_more 5 (omega arith) w5 p5 in
+      let w7 = put_more 6 (omega arith) w6 p6 in
+      let w8 = put_more 7 (omega arith) w7 p7 in
+      let w9 = put_more 8 (omega arith) w8 p8 in
       record { size = w9.size; written = w9.written; others = w9.others }
 
 -- ---- cells

@@ -81,18 +81,18 @@ module _ (line : List ℕ) (a b c d : ℕ) (xs ys : List ℕ) (f : Form line a b
   few : length line ≤ most_bytes
   few = rw f.parts (omega (arith, length-append xs (space ∷ ys), (side_told xs f.x_side).few, (side_told ys f.y_side).few))
 
-  is-readable : readable line ≡ true
+  is_readable : readable line ≡ true
   unfolding readable are_letters are_sides
-  is-readable = rw (le-leb (length line) most_bytes few, letters, f.letters, first, second, f.x_side, f.y_side)
+  is_readable = rw (le-leb (length line) most_bytes few, letters, f.letters, first, second, f.x_side, f.y_side)
 
-  is-asked : asked line ≡ study a b c d (decimal_of xs) (decimal_of ys)
+  is_asked : asked line ≡ study a b c d (decimal_of xs) (decimal_of ys)
   unfolding asked
-  is-asked = rw (first, second, f.parts)
+  is_asked = rw (first, second, f.parts)
 
   -- ITS ANSWER is that to the question
   pub answered : answer_to line ≡ worded (lossless_of (study a b c d (decimal_of xs) (decimal_of ys)))
   unfolding answer_to
-  answered = rw (is-readable, is-asked)
+  answered = rw (is_readable, is_asked)
 
 -- ---- a readable line is of the form
 

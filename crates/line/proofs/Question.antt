@@ -41,9 +41,9 @@ unfolding face_bad
 no_bad_face a d = three_kinds (face_bad a d) refl refl refl
 
 module _ (a b c d nx ny : ℕ) where
-  faces-good : faces_bad (study a b c d nx ny) ≡ false
+  faces_good : faces_bad (study a b c d nx ny) ≡ false
   unfolding faces_bad
-  faces-good = rw (no_bad_face _ _ a, no_bad_face _ _ b, no_bad_face _ _ c, no_bad_face _ _ d)
+  faces_good = rw (no_bad_face _ _ a, no_bad_face _ _ b, no_bad_face _ _ c, no_bad_face _ _ d)
 
   pub not_driven : driven (study a b c d nx ny) ≡ false
   unfolding driven
@@ -53,7 +53,7 @@ module _ (a b c d nx ny : ℕ) where
   question : lossless_of (study a b c d nx ny)
       ≡ cond (sides_bad nx ny) (The.Refused 1) (cond (lossy (study a b c d nx ny)) (lossy_at (lowest (study a b c d nx ny))) The.Lossless)
   unfolding lossless_of answer
-  question = rw (faces-good, not_driven) (go (sides_bad nx ny) _)
+  question = rw (faces_good, not_driven) (go (sides_bad nx ny) _)
     where
       go : (t : Bool) (x : Answer) → cond (eqb (cond t 1 0) 0) x (The.Refused (cond t 1 0)) ≡ cond t (The.Refused 1) x
       go true x = refl

@@ -29,8 +29,8 @@ lossy_size x y i = simp length-append (omega arith)
 -- ---- every answer has room: what is lost lies on the grid, so its numbers are short
 
 module _ (s : Settings) (calm : driven s ≡ false) (x : s.nx < 10 ^ most_digits) (y : s.ny < 10 ^ most_digits) where
-  lossy-short : sides_bad s.nx s.ny ≡ false → lossy s ≡ true → length (worded (lossy_at (lowest s))) ≤ room
-  lossy-short e l =
+  lossy_short : sides_bad s.nx s.ny ≡ false → lossy s ≡ true → length (worded (lossy_at (lowest s))) ≤ room
+  lossy_short e l =
       let on = (is_lowest s calm (sides_ok s.nx s.ny e) l).on in
       let lost = lowest s in
       omega (
@@ -41,11 +41,11 @@ module _ (s : Settings) (calm : driven s ≡ false) (x : s.nx < 10 ^ most_digits
         side_digits lost.i (omega arith),
       )
 
-  by-case : (t u : Bool) → sides_bad s.nx s.ny ≡ t → lossy s ≡ u
+  by_case : (t u : Bool) → sides_bad s.nx s.ny ≡ t → lossy s ≡ u
       → length (cond t (bytes "refused 1\n") (cond u (worded (lossy_at (lowest s))) (bytes "lossless\n"))) ≤ room
-  by-case true u e l = omega arith
-  by-case false true e l = lossy-short e l
-  by-case false false e l = omega arith
+  by_case true u e l = omega arith
+  by_case false true e l = lossy_short e l
+  by_case false false e l = omega arith
 
 pub short : (line : List ℕ) → length (answer_to line) ≤ room
 short line = go (readable line) refl
@@ -54,5 +54,5 @@ short line = go (readable line) refl
     go true e =
         let f = form_of line e in
         rw (written line _ _ _ _ _ _ f)
-        (by-case _ (not_driven _ _ _ _ _ _) (side_small _ f.x_side) (side_small _ f.y_side) _ _ refl refl)
+        (by_case _ (not_driven _ _ _ _ _ _) (side_small _ f.x_side) (side_small _ f.y_side) _ _ refl refl)
     go false e = rw (not_readable line e) (omega arith)

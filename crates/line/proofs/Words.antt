@@ -51,10 +51,10 @@ module _ (mark : ℕ) where
 
   -- ---- what follows
 
-  after-before : (s : List ℕ) → after mark s ≡ drop (suc (length (before mark s))) s
+  after_before : (s : List ℕ) → after mark s ≡ drop (suc (length (before mark s))) s
   unfolding before after
-  after-before [] = refl
-  after-before (b ∷ rest) = go (eqb b mark) refl (after-before rest)
+  after_before [] = refl
+  after_before (b ∷ rest) = go (eqb b mark) refl (after_before rest)
     where
       go : (t : Bool) → eqb b mark ≡ t → after mark rest ≡ drop (suc (length (before mark rest))) rest
           → after mark (b ∷ rest) ≡ drop (suc (length (before mark (b ∷ rest)))) (b ∷ rest)
@@ -62,10 +62,10 @@ module _ (mark : ℕ) where
       go false e more = rw e more
 
   pub after_mark : (s : List ℕ) (n : ℕ) → n ≤ length s → take n s ≡ before mark s → drop (n + 1) s ≡ after mark s
-  after_mark s n h e = rw (after-before s, ← e, length-take-le n s h, add-one)
+  after_mark s n h e = rw (after_before s, ← e, length-take-le n s h, add-one)
 
   pub after_end : (s : List ℕ) (n : ℕ) → n ≤ length s → take n s ≡ before mark s → length s ≤ n → drop n s ≡ after mark s
-  after_end s n h e l = rw (drop_of_length-le s l, after-before s, ← e, length-take-le n s h) (sym (drop_of_length-le s {i = suc n} (omega arith)))
+  after_end s n h e l = rw (drop_of_length-le s l, after_before s, ← e, length-take-le n s h) (sym (drop_of_length-le s {i = suc n} (omega arith)))
 
   pub before_short : (s : List ℕ) → length (before mark s) ≤ length s
   unfolding before

@@ -58,10 +58,10 @@ module _ (s : Settings) (calm : driven s ≡ false) where
 
   -- ---- what the code carries: f with opposite directions swapped, carried on, and swapped back, is the reverse
 
-  reverse-turned : (f : List ℕ) → Same s.nx s.ny (turned true (next s (turned true (field f)))) (reversed s (field f))
+  reverse_turned : (f : List ℕ) → Same s.nx s.ny (turned true (next s (turned true (field f)))) (reversed s (field f))
   unfolding reversed
-  reverse-turned f = by_entry s.nx s.ny _ _ (λ e on. turned_around s e on calm (field f))
+  reverse_turned f = by_entry s.nx s.ny _ _ (λ e on. turned_around s e on calm (field f))
 
   pub reverse_is : (f : List ℕ) → carried true s f ≡ reverse_buffer s f
   unfolding reverse_buffer carried
-  reverse_is f = same_buffer s.nx s.ny _ _ (reverse-turned f)
+  reverse_is f = same_buffer s.nx s.ny _ _ (reverse_turned f)

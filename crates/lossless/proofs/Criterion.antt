@@ -33,29 +33,29 @@ abbrev crossed : Settings → Bool
 crossed s = (is_symmetry s.x_min || is_symmetry s.x_max) && not (is_periodic s.y_min) && leb 2 s.ny
 
 module _ (s : Settings) where
-  abbrev x-strays : Bool
-  x-strays = strays s.x_min s.x_max || strays s.x_max s.x_min
+  abbrev x_strays : Bool
+  x_strays = strays s.x_min s.x_max || strays s.x_max s.x_min
 
-  abbrev y-strays : Bool
-  y-strays = strays s.y_min s.y_max || strays s.y_max s.y_min
+  abbrev y_strays : Bool
+  y_strays = strays s.y_min s.y_max || strays s.y_max s.y_min
 
-  lossy-by : lossy s ≡ (x-strays || y-strays || crossed s)
+  lossy_by : lossy s ≡ (x_strays || y_strays || crossed s)
   unfolding lossy unpaired
-  lossy-by = ap₂ (λ (a b : Bool). a || b || crossed s) (either_way _ _) (either_way _ _)
+  lossy_by = ap₂ (λ (a b : Bool). a || b || crossed s) (either_way _ _) (either_way _ _)
 
 -- ---- where it says no
 
 module _ (s : Settings) (l : lossy s ≡ false) where
-  none : (x-strays s || y-strays s || crossed s) ≡ false
-  none = sym (lossy-by s) ∙ l
+  none : (x_strays s || y_strays s || crossed s) ≡ false
+  none = sym (lossy_by s) ∙ l
 
   -- nothing strays
   steady : (a : Axis) (c : Step) → strayed (face_of s a) c ≡ false
   steady a stay = refl
   steady X up = or_left _ _ (or_left _ _ (or_left _ _ none))
   steady X down = or_right (strays s.x_min s.x_max) _ (or_left _ _ (or_left _ _ none))
-  steady Y up = or_left _ _ (or_right (x-strays s) _ (or_left _ _ none))
-  steady Y down = or_right (strays s.y_min s.y_max) _ (or_right (x-strays s) _ (or_left _ _ none))
+  steady Y up = or_left _ _ (or_right (x_strays s) _ (or_left _ _ none))
+  steady Y down = or_right (strays s.y_min s.y_max) _ (or_right (x_strays s) _ (or_left _ _ none))
 
   module _ (e : Entry) (on : On s.nx s.ny e) where
     -- y is periodic
@@ -75,7 +75,7 @@ module _ (s : Settings) (l : lossy s ≡ false) where
     corner : is_periodic (leaves s Y e) ≡ true → is_symmetry (leaves s X e) ≡ true → is_periodic (enters s Y e) ≡ true
     corner p q =
         let m = mirrors (face_of s X) s.nx e.x (against (part X e.i)) (sym (ap is_symmetry (leaves_by s e on X)) ∙ q) in
-        go (is_periodic s.y_min) (leb 2 s.ny) refl refl (rw m at (or_right (x-strays s || y-strays s) (crossed s) none))
+        go (is_periodic s.y_min) (leb 2 s.ny) refl refl (rw m at (or_right (x_strays s || y_strays s) (crossed s) none))
       where
         go : (a b : Bool) → is_periodic s.y_min ≡ a → leb 2 s.ny ≡ b
             → (not (is_periodic s.y_min) && leb 2 s.ny) ≡ false → is_periodic (enters s Y e) ≡ true
@@ -102,6 +102,6 @@ pub record Corners (s : Settings) : Type 0 where
 
 pub corners : (s : Settings) → lossy s ≡ true → ((a : Axis) (c : Step) → strayed (face_of s a) c ≡ false) → Corners s
 corners s l h =
-    let q = and_split _ _ (rw (h X up, h X down, h Y up, h Y down) at (sym (lossy-by s) ∙ l)) in
+    let q = and_split _ _ (rw (h X up, h X down, h Y up, h Y down) at (sym (lossy_by s) ∙ l)) in
     let r = and_split _ _ q.0 in
     record { mirror = r.0; wall = not-true _ r.1; two = leb-true 2 s.ny q.1 }

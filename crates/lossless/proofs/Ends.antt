@@ -83,9 +83,9 @@ module _ (a b : Face) where
   pass true s p = unless (is_periodic a) (is_periodic b) s p
   pass false s p = refl
 
-  turn-back : (t : Bool) → strays b a ≡ false → is_symmetry (cond t b Periodic) ≡ true → is_periodic (cond t a Periodic) ≡ false
-  turn-back true s p = rw (symmetry_shut b p) at s
-  turn-back false s p = absurd (false≢true p)
+  turn_back : (t : Bool) → strays b a ≡ false → is_symmetry (cond t b Periodic) ≡ true → is_periodic (cond t a Periodic) ≡ false
+  turn_back true s p = rw (symmetry_shut b p) at s
+  turn_back false s p = absurd (false≢true p)
 
 -- ---- what the faces across an axis make of a step
 
@@ -140,5 +140,5 @@ module _ (f : Side → Face) (n k : ℕ) (h : k < n) where
   pub turned_back_lem : (e : Step) → strayed f (against e) ≡ false → is_symmetry (through f n k (against e)) ≡ true
       → is_periodic (through f n (moved e n k) e) ≡ false
   turned_back_lem stay s p = absurd (false≢true p)
-  turned_back_lem up s p = rw (wraps_up n k h) (turn-back (f Min) (f Max) (on_face Max n k) s p)
-  turned_back_lem down s p = rw (wraps_down n k h) (turn-back (f Max) (f Min) (on_face Min n k) s p)
+  turned_back_lem up s p = rw (wraps_up n k h) (turn_back (f Min) (f Max) (on_face Max n k) s p)
+  turned_back_lem down s p = rw (wraps_down n k h) (turn_back (f Max) (f Min) (on_face Min n k) s p)

@@ -72,17 +72,17 @@ module _ (s : Settings) where
   -- ---- directions along one axis, or at rest
 
   -- what strays in the directions 1 to 4
-  abbrev x-up : Bool
-  x-up = strays s.x_min s.x_max
+  abbrev x_up : Bool
+  x_up = strays s.x_min s.x_max
 
-  abbrev y-up : Bool
-  y-up = strays s.y_min s.y_max
+  abbrev y_up : Bool
+  y_up = strays s.y_min s.y_max
 
-  abbrev x-down : Bool
-  x-down = strays s.x_max s.x_min
+  abbrev x_down : Bool
+  x_down = strays s.x_max s.x_min
 
-  abbrev y-down : Bool
-  y-down = strays s.y_max s.y_min
+  abbrev y_down : Bool
+  y_down = strays s.y_max s.y_min
 
   -- what rests along one axis is not turned back at a corner
   at_rest : (e : Entry) → On s.nx s.ny e → (part X e.i ≡ stay) ⊎ (part Y e.i ≡ stay) → is_symmetry (leaves s X e) ≡ true → is_periodic (enters s Y e) ≡ true
@@ -90,9 +90,9 @@ module _ (s : Settings) where
   at_rest e on (inr z) q = ap is_periodic (enters_by s Y e ∙ ap (met s Y e) z)
 
   -- the first five directions
-  first-five : (i : ℕ) → i < 9 → i < 5 → (part X i ≡ stay) ⊎ (part Y i ≡ stay)
+  first_five : (i : ℕ) → i < 9 → i < 5 → (part X i ≡ stay) ⊎ (part Y i ≡ stay)
   unfolding directions
-  first-five =
+  first_five =
       for_nine (λ i. i < 5 → (part X i ≡ stay) ⊎ (part Y i ≡ stay))
       (λ _. inl refl) (λ _. inr refl) (λ _. inl refl) (λ _. inr refl) (λ _. inl refl)
       (λ h. absurd (omega arith)) (λ h. absurd (omega arith)) (λ h. absurd (omega arith)) (λ h. absurd (omega arith))
@@ -114,10 +114,10 @@ module _ (s : Settings) where
       }
 
   early : (m : ℕ) → Quiet m → (e : Entry) → On s.nx s.ny e → e.i < m → Clear s e
-  early m q e on h = let l = q.few in clear s e on (q.steady e.i h) (λ _. at_rest e on (first-five e.i on.i_in (omega arith)))
+  early m q e on h = let l = q.few in clear s e on (q.steady e.i h) (λ _. at_rest e on (first_five e.i on.i_in (omega arith)))
 
   module _ (g : Grid s.nx s.ny) where
-    at_1 : Quiet 1 → x-up ≡ true → Least s (entry (s.nx - 1) 0 1)
+    at_1 : Quiet 1 → x_up ≡ true → Least s (entry (s.nx - 1) 0 1)
     unfolding directions
     at_1 u h =
         let e = entry (s.nx - 1) 0 1 in
@@ -132,7 +132,7 @@ module _ (s : Settings) where
           corner = λ _. at_rest (entry x y 1) q (inr refl);
         })
 
-    at-2 : Quiet 2 → y-up ≡ true → Least s (entry 0 (s.ny - 1) 2)
+    at-2 : Quiet 2 → y_up ≡ true → Least s (entry 0 (s.ny - 1) 2)
     unfolding directions
     at-2 u h =
         let e = entry 0 (s.ny - 1) 2 in
@@ -152,13 +152,13 @@ module _ (s : Settings) where
           corner = λ _. at_rest (entry x y 2) q (inl refl);
         })
 
-    at-3 : Quiet 3 → x-down ≡ true → Least s (entry 0 0 3)
+    at-3 : Quiet 3 → x_down ≡ true → Least s (entry 0 0 3)
     unfolding directions
     at-3 u h =
         let on = spot 0 0 3 g.x_some g.y_some (omega arith) in
         build (entry 0 0 3) on (gone_x s (entry 0 0 3) on refl h refl) (early 3 u) (λ x y q l. absurd (omega arith))
 
-    at-4 : Quiet 4 → y-down ≡ true → Least s (entry 0 0 4)
+    at-4 : Quiet 4 → y_down ≡ true → Least s (entry 0 0 4)
     unfolding directions
     at-4 u h =
         let on = spot 0 0 4 g.x_some g.y_some (omega arith) in
@@ -211,19 +211,19 @@ module _ (s : Settings) where
     unfolding directions
     quiet-1 = more 0 (omega arith) (record { few = omega arith; steady = λ i h. absurd (omega arith) }) (elim [ X ↦ refl | Y ↦ refl ])
 
-    quiet-2 : x-up ≡ false → Quiet 2
+    quiet-2 : x_up ≡ false → Quiet 2
     unfolding directions
     quiet-2 p = more 1 (omega arith) quiet-1 (elim [ X ↦ p | Y ↦ refl ])
 
-    quiet-3 : x-up ≡ false → y-up ≡ false → Quiet 3
+    quiet-3 : x_up ≡ false → y_up ≡ false → Quiet 3
     unfolding directions
     quiet-3 p q = more 2 (omega arith) (quiet-2 p) (elim [ X ↦ refl | Y ↦ q ])
 
-    quiet-4 : x-up ≡ false → y-up ≡ false → x-down ≡ false → Quiet 4
+    quiet-4 : x_up ≡ false → y_up ≡ false → x_down ≡ false → Quiet 4
     unfolding directions
     quiet-4 p q r = more 3 (omega arith) (quiet-3 p q) (elim [ X ↦ r | Y ↦ refl ])
 
-    steady-all : x-up ≡ false → y-up ≡ false → x-down ≡ false → y-down ≡ false
+    steady-all : x_up ≡ false → y_up ≡ false → x_down ≡ false → y_down ≡ false
         → (a : Axis) (c : Step) → strayed (face_of s a) c ≡ false
     steady-all p q r t a stay = refl
     steady-all p q r t X up = p
@@ -234,11 +234,11 @@ module _ (s : Settings) where
     pub is_least : lossy s ≡ true → Least s (lowest s)
     unfolding lowest
     is_least l =
-        go x-up y-up x-down y-down (is_symmetry s.x_max)
+        go x_up y_up x_down y_down (is_symmetry s.x_max)
         refl refl refl refl refl
       where
-        go : (a b c d m : Bool) → x-up ≡ a → y-up ≡ b
-            → x-down ≡ c → y-down ≡ d → is_symmetry s.x_max ≡ m
+        go : (a b c d m : Bool) → x_up ≡ a → y_up ≡ b
+            → x_down ≡ c → y_down ≡ d → is_symmetry s.x_max ≡ m
             → Least s
             (cond a (entry (s.nx - 1) 0 1) (cond b (entry 0 (s.ny - 1) 2) (cond c (entry 0 0 3) (cond d (entry 0 0 4) (cond m (entry (s.nx - 1) 0 5) (entry 0 0 6))))))
         go true b c d m p q r t u = at_1 quiet-1 p

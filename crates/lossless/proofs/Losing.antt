@@ -26,17 +26,17 @@ pub record Gone (s : Settings) (e : Entry) : Type 0 where
 
 module _ (s : Settings) (e : Entry) (g : Gone s e) (q : Entry) (on : On s.nx s.ny q) where
   -- what a face turned q back to goes out there
-  leaves-as : (a : Axis) → bounced a (enters s a q) q ≡ e → leaves s a e ≡ enters s a q
-  leaves-as a is = ap (leaves s a) (sym is) ∙ out_again s q on a (enters s a q)
+  leaves_as : (a : Axis) → bounced a (enters s a q) q ≡ e → leaves s a e ≡ enters s a q
+  leaves_as a is = ap (leaves s a) (sym is) ∙ out_again s q on a (enters s a q)
 
-  not-y : is_periodic (enters s Y q) ≡ false → bounced Y (enters s Y q) q ≡ e → ⊥
-  not-y p is = true≢false (sym g.y_out ∙ ap is_periodic (leaves-as Y is) ∙ p)
+  not_y : is_periodic (enters s Y q) ≡ false → bounced Y (enters s Y q) q ≡ e → ⊥
+  not_y p is = true≢false (sym g.y_out ∙ ap is_periodic (leaves_as Y is) ∙ p)
 
-  not-x : is_periodic (enters s Y q) ≡ true → is_periodic (enters s X q) ≡ false → bounced X (enters s X q) q ≡ e → ⊥
-  not-x p r is =
+  not_x : is_periodic (enters s Y q) ≡ true → is_periodic (enters s X q) ≡ false → bounced X (enters s X q) q ≡ e → ⊥
+  not_x p r is =
       let k = enters s X q in
-      let out = g.x_out (ap is_periodic (leaves-as X is) ∙ r) in
-      let mirrors : is_symmetry k ≡ true = sym (ap is_symmetry (leaves-as X is)) ∙ out.0 in
+      let out = g.x_out (ap is_periodic (leaves_as X is) ∙ r) in
+      let mirrors : is_symmetry k ≡ true = sym (ap is_symmetry (leaves_as X is)) ∙ out.0 in
       false≢true (sym out.1 ∙ ap is_periodic (ap (enters s Y) (sym is) ∙ y_mirrored s q on k mirrors) ∙ p)
 
   -- no entry comes from it
@@ -44,8 +44,8 @@ module _ (s : Settings) (e : Entry) (g : Gone s e) (q : Entry) (on : On s.nx s.n
   never is = go (is_periodic (enters s Y q)) (is_periodic (enters s X q)) refl refl
     where
       go : (py px : Bool) → is_periodic (enters s Y q) ≡ py → is_periodic (enters s X q) ≡ px → ⊥
-      go false px p r = not-y p (sym (by_y s q p) ∙ is)
-      go true false p r = not-x p r (sym (by_x s q p r) ∙ is)
+      go false px p r = not_y p (sym (by_y s q p) ∙ is)
+      go true false p r = not_x p r (sym (by_x s q p r) ∙ is)
       go true true p r =
           let back : goes s e ≡ q = ap (goes s) (sym is ∙ by_none s q p r) ∙ goes_came s q on in
           g.taken (ap (λ (o : Entry). is_periodic (enters s X o)) back ∙ r) (ap (λ (o : Entry). is_periodic (enters s Y o)) back ∙ p)
@@ -53,15 +53,15 @@ module _ (s : Settings) (e : Entry) (g : Gone s e) (q : Entry) (on : On s.nx s.n
 -- ---- by the steps of an entry
 
 module _ (s : Settings) (e : Entry) (on : On s.nx s.ny e) where
-  coord-in : (a : Axis) → coord_of a e.x e.y < size_of a s.nx s.ny
-  coord-in X = on.x_in
-  coord-in Y = on.y_in
+  coord_in : (a : Axis) → coord_of a e.x e.y < size_of a s.nx s.ny
+  coord_in X = on.x_in
+  coord_in Y = on.y_in
 
   -- a step that does not stray
   carried : (a : Axis) → strayed (face_of s a) (part a e.i) ≡ false → is_periodic (leaves s a e) ≡ true → is_periodic (enters s a (goes s e)) ≡ true
   carried a h p =
       ap is_periodic (arrives_by s e on a)
-      ∙ passes (face_of s a) _ _ (coord-in a) (part a e.i) h (sym (ap is_periodic (leaves_by s e on a)) ∙ p)
+      ∙ passes (face_of s a) _ _ (coord_in a) (part a e.i) h (sym (ap is_periodic (leaves_by s e on a)) ∙ p)
 
   pub clear : ((a : Axis) → strayed (face_of s a) (part a e.i) ≡ false)
       → (is_periodic (leaves s Y e) ≡ true → is_symmetry (leaves s X e) ≡ true → is_periodic (enters s Y e) ≡ true) → Clear s e
@@ -76,7 +76,7 @@ module _ (s : Settings) (e : Entry) (on : On s.nx s.ny e) where
       → on_face (ahead (part a e.i)) (size_of a s.nx s.ny) (coord_of a e.x e.y) ≡ true
       → (is_periodic (leaves s a e) ≡ true) × (is_periodic (enters s a (goes s e)) ≡ false)
   astray a h t =
-      let r = goes_astray (face_of s a) _ _ (coord-in a) (part a e.i) h t in
+      let r = goes_astray (face_of s a) _ _ (coord_in a) (part a e.i) h t in
       (ap is_periodic (leaves_by s e on a) ∙ r.0, ap is_periodic (arrives_by s e on a) ∙ r.1)
 
   straight : is_periodic (leaves s X e) ≡ true → is_periodic (leaves s Y e) ≡ true

@@ -21,17 +21,17 @@ use Rattle.lossless.proofs.Ends.{through}
 -- ---- what a face turns a direction to
 
 module _ (a : Axis) (i : ℕ) (h : i < 9) where
-  chosen-part : (t : Bool) → part a (cond t (mirror a i) (OPP i)) ≡ against (part a i)
-  chosen-part true = mirror_part a i h
-  chosen-part false = opposite_part a i h
+  chosen_part : (t : Bool) → part a (cond t (mirror a i) (OPP i)) ≡ against (part a i)
+  chosen_part true = mirror_part a i h
+  chosen_part false = opposite_part a i h
 
-  chosen-twice : (t : Bool) → cond t (mirror a (cond t (mirror a i) (OPP i))) (OPP (cond t (mirror a i) (OPP i))) ≡ i
-  chosen-twice true = mirror_twice a i h
-  chosen-twice false = opposite_twice i h
+  chosen_twice : (t : Bool) → cond t (mirror a (cond t (mirror a i) (OPP i))) (OPP (cond t (mirror a i) (OPP i))) ≡ i
+  chosen_twice true = mirror_twice a i h
+  chosen_twice false = opposite_twice i h
 
-  chosen-small : (t : Bool) → cond t (mirror a i) (OPP i) < 9
-  chosen-small true = mirror_small a i h
-  chosen-small false = opposite_small i h
+  chosen_small : (t : Bool) → cond t (mirror a i) (OPP i) < 9
+  chosen_small true = mirror_small a i h
+  chosen_small false = opposite_small i h
 
 -- the entry that a face turns e back to
 abbrev pub bounced : Axis → Face → Entry → Entry
@@ -59,18 +59,18 @@ module _ (s : Settings) where
 
     -- what a face turned back comes in where it went out, and the other way round
     pub in_again : (a : Axis) (k : Face) → enters s a (bounced a k e) ≡ leaves s a e
-    in_again a k = enters_by a (bounced a k e) ∙ ap (met a e) (chosen-part a e.i on.i_in (is_symmetry k)) ∙ sym (leaves_by a)
+    in_again a k = enters_by a (bounced a k e) ∙ ap (met a e) (chosen_part a e.i on.i_in (is_symmetry k)) ∙ sym (leaves_by a)
 
     pub out_again : (a : Axis) (k : Face) → leaves s a (bounced a k e) ≡ enters s a e
     out_again a k =
         let i = e.i in
         let t = is_symmetry k in
         let back : part a (OPP (reflect a k i)) ≡ part a i =
-        opposite_part a (reflect a k i) (chosen-small a i on.i_in t) ∙ ap against (chosen-part a i on.i_in t) ∙ against_twice (part a i) in
+        opposite_part a (reflect a k i) (chosen_small a i on.i_in t) ∙ ap against (chosen_part a i on.i_in t) ∙ against_twice (part a i) in
         enters_by a (opposite (bounced a k e)) ∙ ap (met a e) back ∙ sym (enters_by a e)
 
     pub bounced_twice : (a : Axis) (k : Face) → bounced a k (bounced a k e) ≡ e
-    bounced_twice a k = ap (entry e.x e.y) (chosen-twice a e.i on.i_in (is_symmetry k))
+    bounced_twice a k = ap (entry e.x e.y) (chosen_twice a e.i on.i_in (is_symmetry k))
 
     -- along y, a mirror across x changes nothing, and what is no mirror turns around
     pub y_mirrored : (k : Face) → is_symmetry k ≡ true → enters s Y (bounced X k e) ≡ enters s Y e

@@ -31,9 +31,9 @@ ones : ℕ → ℕ → List ℕ
 ones n j = set (zeros n) j 1
 
 module _ (n : ℕ) where
-  zero-at : (k : ℕ) → get_or (zeros n) k 0 ≡ 0
+  zero_at : (k : ℕ) → get_or (zeros n) k 0 ≡ 0
   unfolding zeros
-  zero-at k =
+  zero_at k =
       ⊎_elim
       (λ l. get_or-replicate n k 0 0 l)
       (λ l. get_or-eq_default (replicate n 0) 0 (omega (arith, length-replicate {A = ℕ} n 0)))
@@ -49,18 +49,18 @@ module _ (n : ℕ) where
 
   small : (j k : ℕ) → j < n → Dec (k ≡ j) → get_or (ones n j) k 0 < 2 ^ 64
   small j k h (yes e) = rw e (omega (arith, itself j h))
-  small j k h (no d) = omega (arith, other j k d, zero-at k)
+  small j k h (no d) = omega (arith, other j k d, zero_at k)
 
 module _ (nx ny : ℕ) where
-  zeros-buffer : Buffer nx ny (zeros (9 * (nx * ny)))
+  zeros_buffer : Buffer nx ny (zeros (9 * (nx * ny)))
   unfolding zeros
-  zeros-buffer = record { size = length-replicate (9 * (nx * ny)) 0; words = λ k. omega (arith, zero-at (9 * (nx * ny)) k) }
+  zeros_buffer = record { size = length-replicate (9 * (nx * ny)) 0; words = λ k. omega (arith, zero_at (9 * (nx * ny)) k) }
 
-  ones-buffer : (j : ℕ) → j < 9 * (nx * ny) → Buffer nx ny (ones (9 * (nx * ny)) j)
+  ones_buffer : (j : ℕ) → j < 9 * (nx * ny) → Buffer nx ny (ones (9 * (nx * ny)) j)
   unfolding ones
-  ones-buffer j h =
+  ones_buffer j h =
       record {
-        size = length-set (zeros (9 * (nx * ny))) j 1 ∙ zeros-buffer.size;
+        size = length-set (zeros (9 * (nx * ny))) j 1 ∙ zeros_buffer.size;
         words = λ k. small (9 * (nx * ny)) j k h (ℕ_discrete k j);
       }
 
@@ -78,20 +78,20 @@ module _ (s : Settings) (j : ℕ) (inside : j < 9 * (s.nx * s.ny))
   same_next = unseen one none (other (9 * (s.nx * s.ny)) j)
 
   apart : get_or one j 0 ≡ get_or none j 0 → ⊥
-  apart e = let z : ◌≡◌ {A = ℕ} 1 0 = sym (itself (9 * (s.nx * s.ny)) j inside) ∙ e ∙ zero-at (9 * (s.nx * s.ny)) j in omega arith
+  apart e = let z : ◌≡◌ {A = ℕ} 1 0 = sym (itself (9 * (s.nx * s.ny)) j inside) ∙ e ∙ zero_at (9 * (s.nx * s.ny)) j in omega arith
 
   -- no final entry is a copy of it
-  not-kept : Kept s j → ⊥
-  not-kept k =
+  not_kept : Kept s j → ⊥
+  not_kept k =
       apart
-      (sym (k.copy one (ones-buffer s.nx s.ny j inside))
+      (sym (k.copy one (ones_buffer s.nx s.ny j inside))
       ∙ ap (λ (b : List ℕ). get_or b k.final 0) same_next
-      ∙ k.copy none (zeros-buffer s.nx s.ny))
+      ∙ k.copy none (zeros_buffer s.nx s.ny))
 
   -- and two buffers are streamed to one
-  not-lossless : Lossless s → ⊥
-  not-lossless w =
-      apart (ap (λ (b : List ℕ). get_or b j 0) (w.one one none (ones-buffer s.nx s.ny j inside) (zeros-buffer s.nx s.ny) same_next))
+  not_lossless : Lossless s → ⊥
+  not_lossless w =
+      apart (ap (λ (b : List ℕ). get_or b j 0) (w.one one none (ones_buffer s.nx s.ny j inside) (zeros_buffer s.nx s.ny) same_next))
 
 module _ (s : Settings) (calm : driven s ≡ false) where
   place_in : (e : Entry) → On s.nx s.ny e → index_of s.nx s.ny e < 9 * (s.nx * s.ny)
@@ -131,7 +131,7 @@ module _ (s : Settings) (calm : driven s ≡ false) where
       let dark = unseen e m.on (never s e m.gone) in
       record {
         on = m.on;
-        lost = not-kept s (index_of s.nx s.ny e) (place_in e m.on) dark;
+        lost = not_kept s (index_of s.nx s.ny e) (place_in e m.on) dark;
         unseen = dark;
         least = λ j l.
             let n = s.nx * s.ny in
@@ -157,4 +157,4 @@ module _ (s : Settings) (calm : driven s ≡ false) where
       from w false l = l
       from w true l =
           let m = is_lowest g l in
-          absurd (not-lossless s (index_of s.nx s.ny (lowest s)) (place_in (lowest s) m.on) m.unseen w)
+          absurd (not_lossless s (index_of s.nx s.ny (lowest s)) (place_in (lowest s) m.on) m.unseen w)

@@ -18,16 +18,16 @@ below_next a c = go (leb a c) refl
 
 module _ (nx : ℕ) where
   -- the list falls below cell m, or falls within itself
-  abbrev pub fallsFrom : ℕ → List Obstacle → Bool
-  fallsFrom m [] = false
-  fallsFrom m (o ∷ rest) = ltb (place_of nx o) m || fallsFrom (place_of nx o + 1) rest
+  abbrev pub falls_from : ℕ → List Obstacle → Bool
+  falls_from m [] = false
+  falls_from m (o ∷ rest) = ltb (place_of nx o) m || falls_from (place_of nx o + 1) rest
 
-  falls-after : (o : Obstacle) (rest : List Obstacle) → falls nx (o ∷ rest) ≡ fallsFrom (place_of nx o + 1) rest
+  falls_after : (o : Obstacle) (rest : List Obstacle) → falls nx (o ∷ rest) ≡ falls_from (place_of nx o + 1) rest
   unfolding falls
-  falls-after o [] = refl
-  falls-after o (p ∷ rest) = rw (below_next (place_of nx p) (place_of nx o), falls-after p rest)
+  falls_after o [] = refl
+  falls_after o (p ∷ rest) = rw (below_next (place_of nx p) (place_of nx o), falls_after p rest)
 
-  pub falls_from : (list : List Obstacle) → falls nx list ≡ fallsFrom 0 list
+  pub falls_from_lem : (list : List Obstacle) → falls nx list ≡ falls_from 0 list
   unfolding falls
-  falls_from [] = refl
-  falls_from (o ∷ rest) = rw (le-ltb (place_of nx o) 0 (omega arith)) (falls-after o rest)
+  falls_from_lem [] = refl
+  falls_from_lem (o ∷ rest) = rw (le-ltb (place_of nx o) 0 (omega arith)) (falls_after o rest)

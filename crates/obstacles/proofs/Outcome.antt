@@ -12,13 +12,13 @@ use Rattle.grid.proofs.Radix.{low}
 use Rattle.settings.specs.declared.Obstacle.{Obstacle}
 use Rattle.settings.specs.declared.Settings.{Settings}
 use Rattle.settings.specs.Tests.{sides_bad, length_bad, outside, falls}
-use Rattle.settings.specs.Refusals.{refusal, setNoSlipBc}
+use Rattle.settings.specs.Refusals.{refusal, set_no_slip_bc}
 use Rattle.settings.specs.Outcome.{outcome, answer}
 use Rattle.settings.proofs.Laws.{none, length_ok}
 use Rattle.obstacles.specs.declared.Seen.{Seen}
 use Rattle.obstacles.specs.Obstacles.{no_slip_set}
 use Rattle.obstacles.specs.Turns.{size_number, begun_of, tested_of, bounced_at, turn, turned, after}
-use Rattle.obstacles.proofs.Ascent.{falls_from}
+use Rattle.obstacles.proofs.Ascent.{falls_from_lem}
 use Rattle.obstacles.proofs.Runs.{up_to, whole, up_to_all}
 use Rattle.obstacles.proofs.Testing.{tested_number}
 use Rattle.obstacles.proofs.Writing.{turned_all}
@@ -46,8 +46,8 @@ module _ (s : Settings) (list : List Obstacle) (f : List ℕ) where
   abbrev found : Seen
   found = whole sees (begun_of nx ny (length f)) list
 
-  tested-all : after nx ny list f n ≡ turn found f
-  tested-all = testing n (omega arith) ∙ ap (λ (t : Seen). turn t f) (up_to_all sees (begun_of nx ny (length f)) list)
+  tested_all : after nx ny list f n ≡ turn found f
+  tested_all = testing n (omega arith) ∙ ap (λ (t : Seen). turn t f) (up_to_all sees (begun_of nx ny (length f)) list)
 
   -- ---- the turns that write
 
@@ -59,7 +59,7 @@ module _ (s : Settings) (list : List Obstacle) (f : List ℕ) where
 
   writing : (k : ℕ) → k ≤ n → after nx ny list f (n + k) ≡ turn found (up_to writes f list k)
   unfolding after turned
-  writing zero h = rw (add-zero n) tested-all
+  writing zero h = rw (add-zero n) tested_all
   writing (suc k) h = rw (add-suc n k, writing k (omega arith), around k h, le-ltb (n + k) n (omega arith))
 
   written_all : after nx ny list f (n + n) ≡ turn found (whole writes f list)
@@ -73,12 +73,12 @@ module _ (s : Settings) (list : List Obstacle) (f : List ℕ) where
   left_alone (o ∷ rest) b e = rw e (left_alone rest b e)
 
   -- all is written
-  all-written : (rest : List Obstacle) (b : List ℕ) → eqb found.number 0 ≡ true → whole writes b rest ≡ whole (bounced_at nx ny) b rest
-  all-written [] b e = refl
-  all-written (o ∷ rest) b e = rw e (all-written rest (bounced_at nx ny o b) e)
+  all_written : (rest : List Obstacle) (b : List ℕ) → eqb found.number 0 ≡ true → whole writes b rest ≡ whole (bounced_at nx ny) b rest
+  all_written [] b e = refl
+  all_written (o ∷ rest) b e = rw e (all_written rest (bounced_at nx ny o b) e)
 
   -- what the turns find is the number that refuses the call
-  found_number : found.number ≡ refusal (setNoSlipBc s list (length f))
+  found_number : found.number ≡ refusal (set_no_slip_bc s list (length f))
   unfolding size_number
   found_number = tested_number nx ny (length f) list
 
@@ -89,7 +89,7 @@ module _ (s : Settings) (list : List Obstacle) (f : List ℕ) where
     pub within : outside nx ny list ≡ false
     pub ascending : falls nx list ≡ false
 
-  pub accepted : refusal (setNoSlipBc s list (length f)) ≡ 0 → Accepted
+  pub accepted : refusal (set_no_slip_bc s list (length f)) ≡ 0 → Accepted
   unfolding size_number
   accepted e =
       let a = none (sides_bad nx ny) 1 _ tt e in
@@ -99,15 +99,15 @@ module _ (s : Settings) (list : List Obstacle) (f : List ℕ) where
       let size = length_ok nx ny 9 (length f) b.0 in
       record { size = size; later_ones = λ later. rw (a.0, ← size, b.0); within = c.0; ascending = d.0 }
 
-  is-outcome : (t : Bool) → eqb found.number 0 ≡ t → outcome found.number (whole writes f list) ≡ no_slip_set s list f
+  is_outcome : (t : Bool) → eqb found.number 0 ≡ t → outcome found.number (whole writes f list) ≡ no_slip_set s list f
   unfolding answer
-  is-outcome true e =
+  is_outcome true e =
       let z = eqb-true found.number 0 e in
       let ok = accepted (sym found_number ∙ z) in
-      rw (← found_number, e, z, all-written list f e)
+      rw (← found_number, e, z, all_written list f e)
       (ap (λ (b : List ℕ). outcome 0 b)
-      (turned_all nx ny ok.later_ones 0 list f ok.size ok.within (sym (falls_from nx list) ∙ ok.ascending)))
-  is-outcome false e = rw (← found_number, e, left_alone list f e)
+      (turned_all nx ny ok.later_ones 0 list f ok.size ok.within (sym (falls_from_lem nx list) ∙ ok.ascending)))
+  is_outcome false e = rw (← found_number, e, left_alone list f e)
 
   pub obstructs : outcome (after nx ny list f (n + n)).so_far.number (after nx ny list f (n + n)).buffer ≡ no_slip_set s list f
-  obstructs = rw written_all (is-outcome (eqb found.number 0) refl)
+  obstructs = rw written_all (is_outcome (eqb found.number 0) refl)

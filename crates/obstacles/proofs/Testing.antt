@@ -10,7 +10,7 @@ use Rattle.settings.specs.declared.Obstacle.{Obstacle}
 use Rattle.settings.specs.Tests.{sides_bad, length_bad, place_bad, outside, place_of, falls}
 use Rattle.obstacles.specs.declared.Seen.{Seen}
 use Rattle.obstacles.specs.Turns.{seen, size_number, begun_of, place_number, tested_of}
-use Rattle.obstacles.proofs.Ascent.{fallsFrom, falls_from}
+use Rattle.obstacles.proofs.Ascent.{falls_from, falls_from_lem}
 use Rattle.obstacles.proofs.Runs.{whole}
 
 module _ (nx ny len : ℕ) where
@@ -18,12 +18,12 @@ module _ (nx ny len : ℕ) where
   sees = tested_of nx ny len
 
   -- 6 or 16, each over the whole list
-  abbrev listNumber : List Obstacle → ℕ
-  listNumber list = cond (outside nx ny list) 6 (cond (falls nx list) 16 0)
+  abbrev list_number : List Obstacle → ℕ
+  list_number list = cond (outside nx ny list) 6 (cond (falls nx list) 16 0)
 
   -- what the turns find, and what they should
   abbrev Right : List Obstacle → Type 0
-  Right list = (whole sees (begun_of nx ny len) list).number ≡ size_number nx ny len (listNumber list)
+  Right list = (whole sees (begun_of nx ny len) list).number ≡ size_number nx ny len (list_number list)
 
   -- ---- sides or a length that are bad: every turn finds the same
 
@@ -37,7 +37,7 @@ module _ (nx ny len : ℕ) where
 
     bad-number : (list : List Obstacle) → Right list
     unfolding begun_of
-    bad-number list = rw (All-same 0, All-same (listNumber list), stays-bad list)
+    bad-number list = rw (All-same 0, All-same (list_number list), stays-bad list)
 
   -- ---- sides and length that are good
 
@@ -76,25 +76,25 @@ module _ (nx ny len : ℕ) where
         go ih false e = rw (turn_inside o (seen 16 m) e, e) ih
 
     after-0 : (m : ℕ) (list : List Obstacle)
-        → (whole sees (seen 0 m) list).number ≡ cond (outside nx ny list) 6 (cond (fallsFrom nx m list) 16 0)
+        → (whole sees (seen 0 m) list).number ≡ cond (outside nx ny list) 6 (cond (falls_from nx m list) 16 0)
     unfolding outside
     after-0 m [] = refl
     after-0 m (o ∷ rest) =
         go (after-0 (place_of nx o + 1) rest) (place_bad nx ny o.x o.y) (ltb (place_of nx o) m) refl refl
       where
         go : (whole sees (seen 0 (place_of nx o + 1)) rest).number
-            ≡ cond (outside nx ny rest) 6 (cond (fallsFrom nx (place_of nx o + 1) rest) 16 0)
+            ≡ cond (outside nx ny rest) 6 (cond (falls_from nx (place_of nx o + 1) rest) 16 0)
             → (p q : Bool) → place_bad nx ny o.x o.y ≡ p → ltb (place_of nx o) m ≡ q
             → (whole sees (sees o (seen 0 m)) rest).number
             ≡ cond (place_bad nx ny o.x o.y || outside nx ny rest) 6
-            (cond (ltb (place_of nx o) m || fallsFrom nx (place_of nx o + 1) rest) 16 0)
+            (cond (ltb (place_of nx o) m || falls_from nx (place_of nx o + 1) rest) 16 0)
         go ih true q e l = rw (turn-outside o (seen 0 m) e, e) (after-6 0 rest)
         go ih false true e l = rw (turn_inside o (seen 0 m) e, e, l) (after-16 0 rest)
         go ih false false e l = rw (turn_inside o (seen 0 m) e, e, l) ih
 
     good-number : (list : List Obstacle) → Right list
     unfolding begun_of
-    good-number list = rw (later_ones 0, later_ones (listNumber list), falls_from nx list) (after-0 0 list)
+    good-number list = rw (later_ones 0, later_ones (list_number list), falls_from_lem nx list) (after-0 0 list)
 
   by_size : (p q : Bool) → sides_bad nx ny ≡ p → length_bad nx ny 9 len ≡ q → (list : List Obstacle) → Right list
   unfolding size_number

@@ -11,7 +11,7 @@ use Rattle.lattice.proofs.Tables.{opposite_small, opposite_twice}
 use Rattle.grid.specs.Grid.{Field, field_of, buffer_of, Same}
 use Rattle.grid.proofs.Fields.{buffer_length, field_of_buffer, buffer_of_field, same_buffer}
 use Rattle.settings.specs.declared.Settings.{Settings}
-use Rattle.settings.specs.Refusals.{refusal, setNoSlipBc}
+use Rattle.settings.specs.Refusals.{refusal, set_no_slip_bc}
 use Rattle.settings.specs.Outcome.{Written, outcome}
 use Rattle.settings.proofs.Outcome.{answered, refused}
 use Rattle.settings.specs.declared.Obstacle.{Obstacle}
@@ -42,13 +42,13 @@ undone list p r x y i hi here there = go (is_named list x y) refl
 -- ---- buffers
 
 module _ (nx ny : ℕ) (list : List Obstacle) where
-  bounced-length : (f : List ℕ) → length (bounced_buffer nx ny list f) ≡ 9 * (nx * ny)
+  bounced_length : (f : List ℕ) → length (bounced_buffer nx ny list f) ≡ 9 * (nx * ny)
   unfolding bounced_buffer
-  bounced-length f = buffer_length nx ny (bounced list (field_of nx ny f))
+  bounced_length f = buffer_length nx ny (bounced list (field_of nx ny f))
 
-  bounced-field : (f : List ℕ) → Same nx ny (field_of nx ny (bounced_buffer nx ny list f)) (bounced list (field_of nx ny f))
+  bounced_field : (f : List ℕ) → Same nx ny (field_of nx ny (bounced_buffer nx ny list f)) (bounced list (field_of nx ny f))
   unfolding bounced_buffer
-  bounced-field f = field_of_buffer nx ny (bounced list (field_of nx ny f))
+  bounced_field f = field_of_buffer nx ny (bounced list (field_of nx ny f))
 
   bounced_twice : (f : List ℕ) → length f ≡ 9 * (nx * ny) → bounced_buffer nx ny list (bounced_buffer nx ny list f) ≡ f
   unfolding bounced_buffer
@@ -65,7 +65,7 @@ module _ (nx ny : ℕ) (list : List Obstacle) where
 
 module _ (s : Settings) (list : List Obstacle) where
   abbrev number : List ℕ → ℕ
-  number f = refusal (setNoSlipBc s list (length f))
+  number f = refusal (set_no_slip_bc s list (length f))
 
   -- the rule's buffer
   abbrev rule : List ℕ → List ℕ
@@ -99,9 +99,9 @@ module _ (s : Settings) (list : List Obstacle) where
         go true e =
             let z = eqb-true (number f) 0 e in
             let size = (accepted s list f z).size in
-            let as_long = bounced-length s.nx s.ny list f ∙ sym size in
+            let as_long = bounced_length s.nx s.ny list f ∙ sym size in
             again (done f z)
-            ∙ done (rule f) (ap (λ (len : ℕ). refusal (setNoSlipBc s list len)) as_long ∙ z)
+            ∙ done (rule f) (ap (λ (len : ℕ). refusal (set_no_slip_bc s list len)) as_long ∙ z)
             ∙ ap (λ (b : List ℕ). outcome 0 b) (bounced_twice s.nx s.ny list f size)
             ∙ numbered (done f z)
         go false e = let k = kept f (eqb-false (number f) 0 e) in again k ∙ k ∙ numbered k
@@ -111,7 +111,7 @@ module _ (s : Settings) (list : List Obstacle) where
         → field_of s.nx s.ny left x y i ≡ field_of s.nx s.ny f x y (OPP i)
     named_cells_turn z x y i hx hy hi e =
         entry (done f z) x y i
-        ∙ (bounced-field s.nx s.ny list f).here x y i hx hy hi
+        ∙ (bounced_field s.nx s.ny list f).here x y i hx hy hi
         ∙ named_has list (field_of s.nx s.ny f) x y i e
 
     -- every entry of a cell that is not named keeps its bits, refused or not
@@ -122,6 +122,6 @@ module _ (s : Settings) (list : List Obstacle) where
         go : (t : Bool) → eqb (number f) 0 ≡ t → field_of s.nx s.ny left x y i ≡ field_of s.nx s.ny f x y i
         go true q =
             entry (done f (eqb-true (number f) 0 q)) x y i
-            ∙ (bounced-field s.nx s.ny list f).here x y i hx hy hi
+            ∙ (bounced_field s.nx s.ny list f).here x y i hx hy hi
             ∙ others_keep list (field_of s.nx s.ny f) x y i e
         go false q = entry (kept f (eqb-false (number f) 0 q)) x y i

@@ -16,7 +16,7 @@ use Rattle.settings.specs.Tests.{place_bad, outside, place_of}
 use Rattle.settings.proofs.Laws.{or_left, or_right}
 use Rattle.obstacles.specs.Obstacles.{is_named, bounced, bounced_buffer}
 use Rattle.obstacles.specs.Turns.{size_number, place_number, bounced_at}
-use Rattle.obstacles.proofs.Ascent.{fallsFrom}
+use Rattle.obstacles.proofs.Ascent.{falls_from}
 use Rattle.obstacles.proofs.Runs.{whole}
 
 abbrev hit : Obstacle → ℕ → ℕ → Bool
@@ -33,7 +33,7 @@ hit_place nx o x y true false ex ey h = absurd (subst T (sym h) tt)
 hit_place nx o x y false q ex ey h = absurd (subst T (sym h) tt)
 
 -- a cell that an ascending list names stands at or above where it begins
-named_above : (nx m : ℕ) (list : List Obstacle) (x y : ℕ) → fallsFrom nx m list ≡ false → is_named list x y ≡ true
+named_above : (nx m : ℕ) (list : List Obstacle) (x y : ℕ) → falls_from nx m list ≡ false → is_named list x y ≡ true
     → m ≤ x + y * nx
 unfolding is_named
 named_above nx m [] x y up is = absurd (subst T (sym is) tt)
@@ -41,7 +41,7 @@ named_above nx m (o ∷ rest) x y up is =
     go (named_above nx (place_of nx o + 1) rest x y (or_right (ltb (place_of nx o) m) _ up)) (hit o x y) refl is
   where
     above : m ≤ place_of nx o
-    above = ltb-false (place_of nx o) m (or_left (ltb (place_of nx o) m) (fallsFrom nx (place_of nx o + 1) rest) up)
+    above = ltb-false (place_of nx o) m (or_left (ltb (place_of nx o) m) (falls_from nx (place_of nx o + 1) rest) up)
 
     go : (is_named rest x y ≡ true → place_of nx o + 1 ≤ x + y * nx)
         → (h : Bool) → hit o x y ≡ h → h || is_named rest x y ≡ true → m ≤ x + y * nx
@@ -51,7 +51,7 @@ named_above nx m (o ∷ rest) x y up is =
 
 -- one cell, and then the others, of which it is none
 one_and_others : (nx : ℕ) (o : Obstacle) (rest : List Obstacle) (p r : Field) (x y i : ℕ)
-    → fallsFrom nx (place_of nx o + 1) rest ≡ false
+    → falls_from nx (place_of nx o + 1) rest ≡ false
     → r x y i ≡ bounced (o ∷ []) p x y i
     → r x y (OPP i) ≡ bounced (o ∷ []) p x y (OPP i)
     → bounced rest r x y i ≡ bounced (o ∷ rest) p x y i
@@ -74,16 +74,16 @@ none_named p x y i = refl
 
 module _ (nx ny : ℕ) (later_ones : (later : ℕ) → size_number nx ny (9 * (nx * ny)) later ≡ later) where
   -- one turn
-  turned-one : (o : Obstacle) (b : List ℕ) → length b ≡ 9 * (nx * ny) → place_bad nx ny o.x o.y ≡ false
+  turned_one : (o : Obstacle) (b : List ℕ) → length b ≡ 9 * (nx * ny) → place_bad nx ny o.x o.y ≡ false
       → bounced_at nx ny o b ≡ bounced_buffer nx ny (o ∷ []) b
   unfolding bounced_at place_number
-  turned-one o b size e = rw (size, later_ones (cond (place_bad nx ny o.x o.y) 6 0), e)
+  turned_one o b size e = rw (size, later_ones (cond (place_bad nx ny o.x o.y) 6 0), e)
 
-  one-length : (list : List Obstacle) (b : List ℕ) → length (bounced_buffer nx ny list b) ≡ 9 * (nx * ny)
+  one_length : (list : List Obstacle) (b : List ℕ) → length (bounced_buffer nx ny list b) ≡ 9 * (nx * ny)
   unfolding bounced_buffer
-  one-length list b = buffer_length nx ny (bounced list (field_of nx ny b))
+  one_length list b = buffer_length nx ny (bounced list (field_of nx ny b))
 
-  one_more : (o : Obstacle) (rest : List Obstacle) (b : List ℕ) → fallsFrom nx (place_of nx o + 1) rest ≡ false
+  one_more : (o : Obstacle) (rest : List Obstacle) (b : List ℕ) → falls_from nx (place_of nx o + 1) rest ≡ false
       → bounced_buffer nx ny rest (bounced_buffer nx ny (o ∷ []) b) ≡ bounced_buffer nx ny (o ∷ rest) b
   unfolding bounced_buffer
   one_more o rest b up =
@@ -97,22 +97,22 @@ module _ (nx ny : ℕ) (later_ones : (later : ℕ) → size_number nx ny (9 * (n
       })
 
   -- a list of none
-  none-turned : (b : List ℕ) → length b ≡ 9 * (nx * ny) → bounced_buffer nx ny [] b ≡ b
+  none_turned : (b : List ℕ) → length b ≡ 9 * (nx * ny) → bounced_buffer nx ny [] b ≡ b
   unfolding bounced_buffer
-  none-turned b size =
+  none_turned b size =
       same_buffer nx ny _ _ (record { here = λ x y i hx hy hi. none_named (field_of nx ny b) x y i })
       ∙ buffer_of_field nx ny b size
 
   -- the turns, from any buffer and any place that may come next
   pub turned_all : (m : ℕ) (list : List Obstacle) (b : List ℕ) → length b ≡ 9 * (nx * ny) → outside nx ny list ≡ false
-      → fallsFrom nx m list ≡ false
+      → falls_from nx m list ≡ false
       → whole (bounced_at nx ny) b list ≡ bounced_buffer nx ny list b
   unfolding outside
-  turned_all m [] b size ins up = sym (none-turned b size)
+  turned_all m [] b size ins up = sym (none_turned b size)
   turned_all m (o ∷ rest) b size ins up =
       let bad = place_bad nx ny o.x o.y in
-      let above = or_right (ltb (place_of nx o) m) (fallsFrom nx (place_of nx o + 1) rest) up in
-      rw (turned-one o b size (or_left bad (outside nx ny rest) ins))
-      (turned_all (place_of nx o + 1) rest (bounced_buffer nx ny (o ∷ []) b) (one-length (o ∷ []) b)
+      let above = or_right (ltb (place_of nx o) m) (falls_from nx (place_of nx o + 1) rest) up in
+      rw (turned_one o b size (or_left bad (outside nx ny rest) ins))
+      (turned_all (place_of nx o + 1) rest (bounced_buffer nx ny (o ∷ []) b) (one_length (o ∷ []) b)
       (or_right bad (outside nx ny rest) ins) above
       ∙ one_more o rest b above)

@@ -4,7 +4,7 @@ use Rattle.lattice.specs.Lattice.{OPP}
 use Rattle.grid.specs.Grid.{Field, field_of, buffer_of}
 use Rattle.settings.specs.declared.Obstacle.{Obstacle}
 use Rattle.settings.specs.declared.Settings.{Settings}
-use Rattle.settings.specs.Refusals.{refusal, setNoSlipBc}
+use Rattle.settings.specs.Refusals.{refusal, set_no_slip_bc}
 use Rattle.settings.specs.Outcome.{Written, written}
 
 -- the list names the cell at (x, y)
@@ -21,4 +21,4 @@ bounced_buffer nx ny list f = buffer_of nx ny (bounced list (field_of nx ny f))
 
 -- the number, and the populations; refused, they are as they were
 abbrev pub no_slip_set : Settings → List Obstacle → List ℕ → Written
-no_slip_set s list f = written (refusal (setNoSlipBc s list (length f))) f (bounced_buffer s.nx s.ny list f)
+no_slip_set s list f = written (refusal (set_no_slip_bc s list (length f))) f (bounced_buffer s.nx s.ny list f)

@@ -72,7 +72,7 @@ unfoldable pub velocity_buffer : Settings → List ℕ → List ℕ
 velocity_buffer s f = listed (2 * (s.nx * s.ny)) (velocity_entry s f)
 
 abbrev pub velocity_field_read : Settings → List ℕ → List ℕ → Written
-velocity_field_read s f u = written (refusal (Call.velocityField s (length f) (length u))) u (velocity_buffer s f)
+velocity_field_read s f u = written (refusal (Call.velocity_field s (length f) (length u))) u (velocity_buffer s f)
 
 -- ---- sums over the cells c = 0, 1, .., which is y outer and x inner
 
@@ -80,7 +80,7 @@ unfoldable pub mass_of : Settings → List ℕ → Float
 mass_of s f = sum_to (density_at s f) (s.nx * s.ny)
 
 abbrev pub total_mass_read : Settings → List ℕ → Reading
-total_mass_read s f = reading (refusal (Call.totalMass s (length f))) (mass_of s f)
+total_mass_read s f = reading (refusal (Call.total_mass s (length f))) (mass_of s f)
 
 abbrev pub cell_energy : Moments → Float
 cell_energy m = c½ ⊗ m.density ⊗ (m.ux ⊗ m.ux ⊕ m.uy ⊗ m.uy)
@@ -89,7 +89,7 @@ unfoldable pub energy_of : Settings → List ℕ → Float
 energy_of s f = sum_to (λ c. cell_energy (velocity_at s f c)) (s.nx * s.ny)
 
 abbrev pub kinetic_energy_read : Settings → List ℕ → Reading
-kinetic_energy_read s f = reading (refusal (Call.kineticEnergy s (length f))) (energy_of s f)
+kinetic_energy_read s f = reading (refusal (Call.kinetic_energy s (length f))) (energy_of s f)
 
 -- ---- a direction's plane
 

@@ -68,21 +68,21 @@ vouched v e = v.so e
 pub ruleset chosen = (vouched, tested, not-false, rules)
 
 module _ (s : Settings) (f : List ℕ) where
-  all-cells : {k : Collision} → s.collision ≡ k → passed (collided_by k (tau_of s.nu)) s.fx s.fy s.floor (s.nx * s.ny) f ≡ collided_buffer s f
+  all_cells : {k : Collision} → s.collision ≡ k → passed (collided_by k (tau_of s.nu)) s.fx s.fy s.floor (s.nx * s.ny) f ≡ collided_buffer s f
   unfolding passed collided_buffer buffer_of collided
-  all-cells kind =
+  all_cells kind =
       let n = s.nx * s.ny in
       rw (← kind) (λ i. listed (9 * n) (λ k. collided_entry s f (sym (mod-add-div' (k % n) s.nx) i) (k / n)))
 
   module _ {e : List ℕ} {tau : Float} (time : tau ≡ tau_of s.nu) where
     pub bgk_all : {rates : BgkRates} → s.collision ≡ Bgk → rates ≡ bgk_rates tau → e ≡ passed (bgk rates) s.fx s.fy s.floor (s.nx * s.ny) f → e ≡ collided_buffer s f
     unfolding collided_by
-    bgk_all kind so w = w ∙ rw (so, time) (all-cells kind)
+    bgk_all kind so w = w ∙ rw (so, time) (all_cells kind)
 
     pub trt_all : {rate : Float} {rates : TrtRates} → s.collision ≡ Trt rate → rates ≡ trt_rates tau rate → e ≡ passed (trt rates) s.fx s.fy s.floor (s.nx * s.ny) f → e ≡ collided_buffer s f
     unfolding collided_by
-    trt_all kind so w = w ∙ rw (so, time) (all-cells kind)
+    trt_all kind so w = w ∙ rw (so, time) (all_cells kind)
 
     pub mrt_all : {rates : MrtRates} → s.collision ≡ Mrt → rates ≡ mrt_rates tau → e ≡ passed (mrt rates) s.fx s.fy s.floor (s.nx * s.ny) f → e ≡ collided_buffer s f
     unfolding collided_by
-    mrt_all kind so w = w ∙ rw (so, time) (all-cells kind)
+    mrt_all kind so w = w ∙ rw (so, time) (all_cells kind)

@@ -39,9 +39,9 @@ same_density f fx fy floor = go (lt (density_of f) floor) refl
     go false e = rw e
 
 module _ (s : Settings) (f : List ℕ) (c : ℕ) where
-  finite-where : bad_cell s f c ≡ false → FiniteCell s f c
+  finite_where : bad_cell s f c ≡ false → FiniteCell s f c
   unfolding bad_cell
-  finite-where e =
+  finite_where e =
       let m = velocity_at s f c in
       let two = or_left (not_finite m.density || not_finite m.ux) (not_finite m.uy) e in
       record {
@@ -50,9 +50,9 @@ module _ (s : Settings) (f : List ℕ) (c : ℕ) where
         uy = or_right (not_finite m.density || not_finite m.ux) (not_finite m.uy) e;
       }
 
-  not-bad : FiniteCell s f c → bad_cell s f c ≡ false
+  not_bad : FiniteCell s f c → bad_cell s f c ≡ false
   unfolding bad_cell
-  not-bad h = rw (same_density _ _ _ _, h.density, h.ux, h.uy)
+  not_bad h = rw (same_density _ _ _ _, h.density, h.ux, h.uy)
 
 none_of_all : (g : ℕ → Bool) (n : ℕ) → ((c : ℕ) → c < n → g c ≡ false) → some_of g n ≡ false
 unfolding some_of
@@ -67,14 +67,14 @@ module _ (s : Settings) (tolerance : Float) (most every : ℕ) (f post u : List 
 
   -- SETTLED: every cell of the populations that are left is finite
   pub settled_finite : (k : ℕ) (r : Float) → outcome.answer ≡ Settled k r → FiniteCells s outcome.f
-  settled_finite k r e c h = finite-where s outcome.f c (no_bad_cell s tolerance most every f post u k r e c h)
+  settled_finite k r e c h = finite_where s outcome.f c (no_bad_cell s tolerance most every f post u k r e c h)
 
   -- RUINED: not every cell of them is
   pub ruined_not_finite : (k : ℕ) → outcome.answer ≡ Ruined k → FiniteCells s outcome.f → ⊥
   unfolding bad_snapshot
   ruined_not_finite k e h =
       let so = subst (λ (a : Steady). Tells s (checks_of tolerance most every) (state f post) u a outcome) e (tied s tolerance most every f post u).tells in
-      true≢false (sym so.bad ∙ none_of_all (bad_cell s outcome.f) (s.nx * s.ny) (λ c l. not-bad s outcome.f c (h c l)))
+      true≢false (sym so.bad ∙ none_of_all (bad_cell s outcome.f) (s.nx * s.ny) (λ c l. not_bad s outcome.f c (h c l)))
 
   -- so a run that is finite after each number of steps is never called ruined
   pub never_ruined : ((k : ℕ) → k ≤ most → FiniteCells s (steps s k (state f post)).f) → (k : ℕ) → outcome.answer ≡ Ruined k → ⊥

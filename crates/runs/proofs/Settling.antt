@@ -124,7 +124,7 @@ pub ruleset beginning = (ruined_first, ran_on, tested, rules)
 
 -- ---- the outcome of `run_to_steady_state`, where the code found the number n
 
-module _ (s : Settings) (tolerance : Float) (most every : ℕ) (f post u : List ℕ) {n : ℕ} (e : n ≡ refusal (Call.runToSteadyState s tolerance most (length f) (length post) (length u))) where
+module _ (s : Settings) (tolerance : Float) (most every : ℕ) (f post u : List ℕ) {n : ℕ} (e : n ≡ refusal (Call.run_to_steady_state s tolerance most (length f) (length post) (length u))) where
   pub is_refused : (n ≡ 0 → ⊥) → ended (Refused n) (state f post) u ≡ steady_of s tolerance most every f post u
   unfolding steady_of
   is_refused h = refused _ (λ n. ended (Refused n) (state f post) u) e h
@@ -132,7 +132,7 @@ module _ (s : Settings) (tolerance : Float) (most every : ℕ) (f post u : List 
   module _ (h : n ≡ 0) where
     pub settle_ready : AllReady s f post u
     settle_ready =
-        let q = known (Call.runToSteadyState s tolerance most (length f) (length post) (length u)) (sym e ∙ h) in
+        let q = known (Call.run_to_steady_state s tolerance most (length f) (length post) (length u)) (sym e ∙ h) in
         record { ready = record { grid = q.0; f_size = q.1.0.size; post_size = q.1.1.0.size }; u_size = q.1.1.1.0.size }
 
     pub is_run : {o : SteadyRun} → o ≡ settling s (checks_of tolerance most every) (state f post) u → o ≡ steady_of s tolerance most every f post u

@@ -56,16 +56,16 @@ unfolding largest
 two_more g c = let e : 2 * (c + 1) ≡ suc (suc (2 * c)) = omega arith in rw (e, add-one (2 * c))
 
 module _ (s : Settings) (f last : List ℕ) where
-  component-x : (c : ℕ) → component_at s f (2 * c) ≡ (velocity_at s f c).ux
+  component_x : (c : ℕ) → component_at s f (2 * c) ≡ (velocity_at s f c).ux
   unfolding component_at
-  component-x c =
+  component_x c =
       let q : 2 * c / 2 ≡ c = omega arith in
       let r : 2 * c % 2 ≡ 0 = omega arith in
       rw (q, r)
 
-  component-y : (c : ℕ) → component_at s f (2 * c + 1) ≡ (velocity_at s f c).uy
+  component_y : (c : ℕ) → component_at s f (2 * c + 1) ≡ (velocity_at s f c).uy
   unfolding component_at
-  component-y c =
+  component_y c =
       let q : (2 * c + 1) / 2 ≡ c = omega arith in
       let r : (2 * c + 1) % 2 ≡ 1 = omega arith in
       rw (q, r)
@@ -81,8 +81,8 @@ module _ (s : Settings) (f last : List ℕ) where
       let fits : 2 * c + 1 < length last = omega arith in
       let old-x : get_or u (2 * c) 0 ≡ get_or last (2 * c) 0 = t.wrote.above (2 * c) (omega arith) in
       let old-y : get_or u (2 * c + 1) 0 ≡ get_or last (2 * c + 1) 0 = t.wrote.above (2 * c + 1) (omega arith) in
-      let new-x : m.ux ≡ component_at s f (2 * c) = ap (λ (m : Moments). m.ux) p ∙ sym (component-x c) in
-      let new-y : m.uy ≡ component_at s f (2 * c + 1) = ap (λ (m : Moments). m.uy) p ∙ sym (component-y c) in
+      let new-x : m.ux ≡ component_at s f (2 * c) = ap (λ (m : Moments). m.ux) p ∙ sym (component_x c) in
+      let new-y : m.uy ≡ component_at s f (2 * c + 1) = ap (λ (m : Moments). m.uy) p ∙ sym (component_y c) in
       record {
         low = omega arith;
         wrote = rw (ap (λ (t : CellTaken). t.u) e) (velocity_more s f last u c fits p refl refl t.wrote);

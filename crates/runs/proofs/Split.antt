@@ -42,8 +42,8 @@ module _ (s : Settings) (a b : ℕ) (f post : List ℕ) (few : a + b ≤ most_st
   abbrev number : ℕ
   number = refusal (Call.run s a (length f) (length post))
 
-  on-what-it-left : {o : Stepped} → o ≡ run_of s a f post → run_of s b o.f o.post ≡ run_of s b (run_of s a f post).f (run_of s a f post).post
-  on-what-it-left e = ap (λ (o : Stepped). run_of s b o.f o.post) e
+  on_what_it_left : {o : Stepped} → o ≡ run_of s a f post → run_of s b o.f o.post ≡ run_of s b (run_of s a f post).f (run_of s a f post).post
+  on_what_it_left e = ap (λ (o : Stepped). run_of s b o.f o.post) e
 
   pub run_add : run_of s (a + b) f post ≡ run_of s b (run_of s a f post).f (run_of s a f post).post
   run_add = go (ℕ_discrete number 0)
@@ -64,5 +64,5 @@ module _ (s : Settings) (a b : ℕ) (f post : List ℕ) (few : a + b ≤ most_st
           let same : refusal (Call.run s b (length f) (length post)) ≡ refusal (Call.run s b (length x.f) (length x.post)) = rw (fs, ps) in
           sym (ran s (a + b) f post whole z refl)
           ∙ ran s b x.f x.post (rest ∙ same) z (steps_add s a b (state f post))
-          ∙ on-what-it-left (ran s a f post refl z refl)
-      go (no d) = sym (kept s (a + b) whole d) ∙ kept s b rest d ∙ on-what-it-left (kept s a refl d)
+          ∙ on_what_it_left (ran s a f post refl z refl)
+      go (no d) = sym (kept s (a + b) whole d) ∙ kept s b rest d ∙ on_what_it_left (kept s a refl d)

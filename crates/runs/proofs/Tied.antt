@@ -72,38 +72,38 @@ module _ (s : Settings) (checks : Checks) (b : State) (u₀ : List ℕ) where
   -- ---- the turns
 
   -- one turn, `after` being told of what comes after it
-  turn-tied : (m k : ℕ) → k < checks.max_steps → (c : Check) (u : List ℕ) → Finds (suc k) (steps s (suc k) b).f c u → ((u : List ℕ) (r : Float) → Tied (onward s checks b m (suc k) u r))
+  turn_tied : (m k : ℕ) → k < checks.max_steps → (c : Check) (u : List ℕ) → Finds (suc k) (steps s (suc k) b).f c u → ((u : List ℕ) (r : Float) → Tied (onward s checks b m (suc k) u r))
       → Tied (verdict (suc k) (steps s (suc k) b) c u (onward s checks b m (suc k)))
-  turn-tied m k l Bad u h after = record { reached = refl; within = l; tells = record { bad = h; untouched = λ z. absurd (omega arith) } }
-  turn-tied m k l (Settles r) u h after = record { reached = refl; within = l; tells = h }
-  turn-tied m k l (GoesOn r) u h after = after u r
+  turn_tied m k l Bad u h after = record { reached = refl; within = l; tells = record { bad = h; untouched = λ z. absurd (omega arith) } }
+  turn_tied m k l (Settles r) u h after = record { reached = refl; within = l; tells = h }
+  turn_tied m k l (GoesOn r) u h after = after u r
 
-  onward-tied : (m k : ℕ) (u : List ℕ) (r : Float) → k + m ≡ checks.max_steps → Tied (onward s checks b m k u r)
+  onward_tied : (m k : ℕ) (u : List ℕ) (r : Float) → k + m ≡ checks.max_steps → Tied (onward s checks b m k u r)
   unfolding onward
-  onward-tied zero k u r e = record { reached = refl; within = omega arith; tells = omega arith }
-  onward-tied (suc m) k u r e =
+  onward_tied zero k u r e = record { reached = refl; within = omega arith; tells = omega arith }
+  onward_tied (suc m) k u r e =
       let now = (steps s (suc k) b).f in
       let c = check_of s checks (suc k) r now u in
-      turn-tied m k (omega arith) c.check c.u (finds (suc k) r now u) (λ u' r'. onward-tied m (suc k) u' r' (omega arith))
+      turn_tied m k (omega arith) c.check c.u (finds (suc k) r now u) (λ u' r'. onward_tied m (suc k) u' r' (omega arith))
 
-  settling-tied : Tied (settling s checks b u₀)
-  settling-tied = go (bad_snapshot s b.f) refl
+  settling_tied : Tied (settling s checks b u₀)
+  settling_tied = go (bad_snapshot s b.f) refl
     where
       go : (bad : Bool) → bad_snapshot s b.f ≡ bad → Tied (settling s checks b u₀)
       go true h = subst Tied (ruined_first s checks b u₀ h) (record { reached = no_step s b; within = omega arith; tells = record { bad = h; untouched = λ z. refl } })
-      go false h = subst Tied (ran_on s checks b u₀ h refl refl) (onward-tied checks.max_steps 0 _ _ (omega arith))
+      go false h = subst Tied (ran_on s checks b u₀ h refl refl) (onward_tied checks.max_steps 0 _ _ (omega arith))
 
 -- ---- every outcome
 
 module _ (s : Settings) (tolerance : Float) (most every : ℕ) (f post u : List ℕ) where
   abbrev number : ℕ
-  number = refusal (Call.runToSteadyState s tolerance most (length f) (length post) (length u))
+  number = refusal (Call.run_to_steady_state s tolerance most (length f) (length post) (length u))
 
   pub tied : Tied s (checks_of tolerance most every) (state f post) u (steady_of s tolerance most every f post u)
   tied = go (ℕ_discrete number 0)
     where
       go : Dec (number ≡ 0) → Tied s (checks_of tolerance most every) (state f post) u (steady_of s tolerance most every f post u)
-      go (yes z) = subst (Tied s (checks_of tolerance most every) (state f post) u) (is_run s tolerance most every f post u refl z refl) (settling-tied s (checks_of tolerance most every) (state f post) u)
+      go (yes z) = subst (Tied s (checks_of tolerance most every) (state f post) u) (is_run s tolerance most every f post u refl z refl) (settling_tied s (checks_of tolerance most every) (state f post) u)
       go (no d) = subst (Tied s (checks_of tolerance most every) (state f post) u) (is_refused s tolerance most every f post u refl d) (record { reached = no_step s (state f post); within = omega arith; tells = refl })
 
 -- ---- no settled answer stands over a bad cell

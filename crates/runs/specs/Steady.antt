@@ -135,6 +135,6 @@ checks_of tolerance most every = record { tolerance = tolerance; max_steps = mos
 -- THE STEADY RUN: refused, everything is as it was
 unfoldable pub steady_of : Settings → Float → ℕ → ℕ → List ℕ → List ℕ → List ℕ → SteadyRun
 steady_of s tolerance most every f post u =
-    let number = refusal (Refusals.runToSteadyState s tolerance most (length f) (length post) (length u)) in
+    let number = refusal (Refusals.run_to_steady_state s tolerance most (length f) (length post) (length u)) in
     let b = state f post in
     answer number (settling s (checks_of tolerance most every) b u) (ended (Refused number) b u)

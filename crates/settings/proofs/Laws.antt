@@ -11,7 +11,7 @@ use Rattle.grid.specs.Grid.{Grid, most_side, most_cells}
 use Rattle.settings.specs.declared.Head.{Head}
 use Rattle.settings.specs.declared.Settings.{Settings}
 use Rattle.settings.specs.Tests.{side_bad, sides_bad, length_bad, bytes_bad, rates_bad, floor_bad, force_bad, faces_bad, steps_bad, most_steps, place_bad, direction_bad, outside, falls, driven, lossy, count_bad, size_bad, tally_count_bad, sums_bad}
-use Rattle.settings.specs.Refusals.{Test, row, first, Call, tests, refusal, sides, lengths, rates, floor, force, faces, kinds, losses, tolerance, steps, place, direction, places, ascent, bytes, short, version, cut, stored, counted, lent, tallyCounted, sums, sized}
+use Rattle.settings.specs.Refusals.{Test, row, first, Call, tests, refusal, sides, lengths, rates, floor, force, faces, kinds, losses, tolerance, steps, place, direction, places, ascent, bytes, short, version, cut, stored, counted, lent, tally_counted, sums, sized}
 
 -- ---- what a test tells
 
@@ -132,7 +132,7 @@ Tells (cut h) = 9 ≤ h.length
 Tells (stored h) = Grid h.nx h.ny
 Tells (counted h) = Counted h
 Tells (lent h per len) = len ≡ per * (h.nx * h.ny)
-Tells (tallyCounted length count) = TallyCounted length count
+Tells (tally_counted length count) = TallyCounted length count
 Tells (sums t) = sums_bad t ≡ false
 Tells (sized size len) = len ≡ size
 
@@ -158,7 +158,7 @@ tells (cut h) e = ltb-false h.length 9 e
 tells (stored h) e = sides_ok h.nx h.ny e
 tells (counted h) e = count_ok h e
 tells (lent h per len) e = length_ok h.nx h.ny per len e
-tells (tallyCounted length count) e = tally_count_ok length count e
+tells (tally_counted length count) e = tally_count_ok length count e
 tells (sums t) e = e
 tells (sized size len) e = size_ok size len e
 
@@ -192,7 +192,7 @@ positive (cut h) = tt
 positive (stored h) = tt
 positive (counted h) = tt
 positive (lent h per len) = tt
-positive (tallyCounted length count) = tt
+positive (tally_counted length count) = tt
 positive (sums t) = tt
 positive (sized size len) = tt
 

@@ -21,7 +21,7 @@ pub data Test : Type 0 where
   version : (v : ℕ) → Test
   cut stored counted : (h : Head) → Test
   lent : (h : Head) (per len : ℕ) → Test
-  tallyCounted : (length count : ℕ) → Test
+  tally_counted : (length count : ℕ) → Test
   sums : (t : List ℕ) → Test
   sized : (size len : ℕ) → Test
 
@@ -56,7 +56,7 @@ row (cut h) = 14 when cut_bad h
 row (stored h) = 1 when sides_bad h.nx h.ny
 row (counted h) = 15 when count_bad h
 row (lent h per len) = 2 when length_bad h.nx h.ny per len
-row (tallyCounted length count) = 15 when tally_count_bad length count
+row (tally_counted length count) = 15 when tally_count_bad length count
 row (sums t) = 17 when sums_bad t
 row (sized size len) = 2 when size_bad size len
 
@@ -90,24 +90,24 @@ pub data Call : Type 0 where
   initialize : (s : Settings) (table f : ℕ) → Call
   density : (s : Settings) (f x y : ℕ) → Call
   velocity : (s : Settings) (f x y : ℕ) → Call
-  velocityField : (s : Settings) (f u : ℕ) → Call
-  totalMass : (s : Settings) (f : ℕ) → Call
-  kineticEnergy : (s : Settings) (f : ℕ) → Call
+  velocity_field : (s : Settings) (f u : ℕ) → Call
+  total_mass : (s : Settings) (f : ℕ) → Call
+  kinetic_energy : (s : Settings) (f : ℕ) → Call
   plane : (s : Settings) (f i : ℕ) → Call
-  streamWithFaces : (s : Settings) (post f : ℕ) → Call
+  stream_with_faces : (s : Settings) (post f : ℕ) → Call
   lossless : (s : Settings) → Call
   reverse : (s : Settings) (f post : ℕ) → Call
   step : (s : Settings) (f post : ℕ) → Call
   run : (s : Settings) (n f post : ℕ) → Call
-  runToSteadyState : (s : Settings) (t : Float) (n f post u : ℕ) → Call
-  setNoSlipBc : (s : Settings) (list : List Obstacle) (f : ℕ) → Call
-  writeCheckpoint : (s : Settings) (f bytes : ℕ) → Call
+  run_to_steady_state : (s : Settings) (t : Float) (n f post u : ℕ) → Call
+  set_no_slip_bc : (s : Settings) (list : List Obstacle) (f : ℕ) → Call
+  write_checkpoint : (s : Settings) (f bytes : ℕ) → Call
   checkpoint_sides : (h : Head) → Call
-  readCheckpoint : (h : Head) (f : ℕ) → Call
+  read_checkpoint : (h : Head) (f : ℕ) → Call
   tally : (s : Settings) (f : ℕ) → Call
-  writeEntry : (s : Settings) (f x y i : ℕ) → Call
-  writeTally : (tally : List ℕ) (bytes : ℕ) → Call
-  readTally : (length count v : ℕ) (ten : List ℕ) (tally : ℕ) → Call
+  write_entry : (s : Settings) (f x y i : ℕ) → Call
+  write_tally : (tally : List ℕ) (bytes : ℕ) → Call
+  read_tally : (length count v : ℕ) (ten : List ℕ) (tally : ℕ) → Call
 
 -- what it tests. Populations and post-collision populations have nine entries a cell, an initial table three, a velocity buffer two;
 -- a tally has ten numbers, its file 85 bytes
@@ -115,29 +115,29 @@ abbrev pub tests : Call → List Test
 tests (initialize s table f) = sides s ∷ lengths s 9 f ∷ lengths s 3 table ∷ []
 tests (density s f x y) = sides s ∷ lengths s 9 f ∷ place s x y ∷ []
 tests (velocity s f x y) = sides s ∷ lengths s 9 f ∷ floor s ∷ force s ∷ place s x y ∷ []
-tests (velocityField s f u) = sides s ∷ lengths s 9 f ∷ lengths s 2 u ∷ floor s ∷ force s ∷ []
-tests (totalMass s f) = sides s ∷ lengths s 9 f ∷ []
-tests (kineticEnergy s f) = sides s ∷ lengths s 9 f ∷ floor s ∷ force s ∷ []
+tests (velocity_field s f u) = sides s ∷ lengths s 9 f ∷ lengths s 2 u ∷ floor s ∷ force s ∷ []
+tests (total_mass s f) = sides s ∷ lengths s 9 f ∷ []
+tests (kinetic_energy s f) = sides s ∷ lengths s 9 f ∷ floor s ∷ force s ∷ []
 tests (plane s f i) = sides s ∷ lengths s 9 f ∷ direction i ∷ []
-tests (streamWithFaces s post f) = sides s ∷ lengths s 9 f ∷ lengths s 9 post ∷ faces s ∷ []
+tests (stream_with_faces s post f) = sides s ∷ lengths s 9 f ∷ lengths s 9 post ∷ faces s ∷ []
 tests (lossless s) = sides s ∷ faces s ∷ kinds s ∷ []
 tests (reverse s f post) = sides s ∷ lengths s 9 f ∷ lengths s 9 post ∷ faces s ∷ kinds s ∷ losses s ∷ []
 tests (step s f post) = sides s ∷ lengths s 9 f ∷ lengths s 9 post ∷ rates s ∷ floor s ∷ force s ∷ faces s ∷ []
 tests (run s n f post) =
     sides s ∷ lengths s 9 f ∷ lengths s 9 post ∷ rates s ∷ floor s ∷ force s ∷ faces s ∷ steps n ∷ []
-tests (runToSteadyState s t n f post u) =
+tests (run_to_steady_state s t n f post u) =
     sides s ∷ lengths s 9 f ∷ lengths s 9 post ∷ lengths s 2 u ∷ rates s ∷ floor s ∷ force s ∷ faces s ∷ tolerance t
     ∷ steps n ∷ []
-tests (setNoSlipBc s list f) = sides s ∷ lengths s 9 f ∷ places s list ∷ ascent s list ∷ []
-tests (writeCheckpoint s f n) = sides s ∷ lengths s 9 f ∷ bytes s n ∷ []
+tests (set_no_slip_bc s list f) = sides s ∷ lengths s 9 f ∷ places s list ∷ ascent s list ∷ []
+tests (write_checkpoint s f n) = sides s ∷ lengths s 9 f ∷ bytes s n ∷ []
 tests (checkpoint_sides h) = short h.length ∷ version h.version ∷ cut h ∷ stored h ∷ counted h ∷ []
-tests (readCheckpoint h f) =
+tests (read_checkpoint h f) =
     short h.length ∷ version h.version ∷ cut h ∷ stored h ∷ counted h ∷ lent h 9 f ∷ []
 tests (tally s f) = sides s ∷ lengths s 9 f ∷ []
-tests (writeEntry s f x y i) = sides s ∷ lengths s 9 f ∷ place s x y ∷ direction i ∷ []
-tests (writeTally t n) = sums t ∷ sized 85 n ∷ []
-tests (readTally length count v ten t) =
-    short length ∷ version v ∷ tallyCounted length count ∷ sums ten ∷ sized 10 t ∷ []
+tests (write_entry s f x y i) = sides s ∷ lengths s 9 f ∷ place s x y ∷ direction i ∷ []
+tests (write_tally t n) = sums t ∷ sized 85 n ∷ []
+tests (read_tally length count v ten t) =
+    short length ∷ version v ∷ tally_counted length count ∷ sums ten ∷ sized 10 t ∷ []
 
 -- the number that refuses the call, or 0
 abbrev pub refusal : Call → ℕ

@@ -395,19 +395,19 @@ pub fn velocity_refusal(s: Settings, f: usize, x: usize, y: usize) -> u32
 }
 
 pub fn velocity_field_refusal(s: Settings, f: usize, u: usize) -> u32
-    ensures { result ≡ refusal (Refusals.velocityField s f u) }
+    ensures { result ≡ refusal (Refusals.velocity_field s f u) }
 {
     populations(s, f, lengths(s, 2, u, moments(s, 0)))
 }
 
 pub fn total_mass_refusal(s: Settings, f: usize) -> u32
-    ensures { result ≡ refusal (Refusals.totalMass s f) }
+    ensures { result ≡ refusal (Refusals.total_mass s f) }
 {
     populations(s, f, 0)
 }
 
 pub fn kinetic_energy_refusal(s: Settings, f: usize) -> u32
-    ensures { result ≡ refusal (Refusals.kineticEnergy s f) }
+    ensures { result ≡ refusal (Refusals.kinetic_energy s f) }
 {
     populations(s, f, moments(s, 0))
 }
@@ -419,7 +419,7 @@ pub fn plane_refusal(s: Settings, f: usize, i: usize) -> u32
 }
 
 pub fn stream_with_faces_refusal(s: Settings, post: usize, f: usize) -> u32
-    ensures { result ≡ refusal (Refusals.streamWithFaces s post f) }
+    ensures { result ≡ refusal (Refusals.stream_with_faces s post f) }
 {
     populations(s, f, lengths(s, 9, post, faces(s, 0)))
 }
@@ -459,7 +459,7 @@ pub fn run_to_steady_state_refusal(
     post: usize,
     u: usize,
 ) -> u32
-    ensures { result ≡ refusal (Refusals.runToSteadyState s t n f post u) }
+    ensures { result ≡ refusal (Refusals.run_to_steady_state s t n f post u) }
 {
     let number = stepping(s, tolerance(t, steps(n, 0)));
     populations(s, f, lengths(s, 9, post, lengths(s, 2, u, number)))
@@ -467,7 +467,7 @@ pub fn run_to_steady_state_refusal(
 
 // f and bytes are the lengths of the populations and of the file.
 pub fn write_checkpoint_refusal(s: Settings, f: usize, bytes: usize) -> u32
-    ensures { result ≡ refusal (Refusals.writeCheckpoint s f bytes) }
+    ensures { result ≡ refusal (Refusals.write_checkpoint s f bytes) }
 {
     populations(s, f, number_if(bytes_bad(s.nx, s.ny, 13, bytes), 2, 0))
 }
@@ -479,7 +479,7 @@ pub fn checkpoint_sides_refusal(h: Head) -> u32
 }
 
 pub fn read_checkpoint_refusal(h: Head, f: usize) -> u32
-    ensures { result ≡ refusal (Refusals.readCheckpoint h f) }
+    ensures { result ≡ refusal (Refusals.read_checkpoint h f) }
 {
     file(h, number_if(length_bad(h.nx, h.ny, 9, f), 2, 0))
 }
@@ -491,14 +491,14 @@ pub fn tally_refusal(s: Settings, f: usize) -> u32
 }
 
 pub fn write_entry_refusal(s: Settings, f: usize, x: usize, y: usize, i: usize) -> u32
-    ensures { result ≡ refusal (Refusals.writeEntry s f x y i) }
+    ensures { result ≡ refusal (Refusals.write_entry s f x y i) }
 {
     populations(s, f, place(s, x, y, direction(i, 0)))
 }
 
 // bytes is the length of the file.
 pub fn write_tally_refusal(t: &[u64; 10], bytes: usize) -> u32
-    ensures { result ≡ refusal (Refusals.writeTally t.now bytes) }
+    ensures { result ≡ refusal (Refusals.write_tally t.now bytes) }
 {
     numbers(t, TALLY_FILE, bytes)
 }
@@ -511,7 +511,7 @@ pub fn read_tally_refusal(
     ten: &[u64; 10],
     tally: usize,
 ) -> u32
-    ensures { result ≡ refusal (Refusals.readTally length count version ten.now tally) }
+    ensures { result ≡ refusal (Refusals.read_tally length count version ten.now tally) }
 {
     let later = numbers(ten, 10, tally);
     let later = number_if(tally_count_bad(length, count), 15, later);

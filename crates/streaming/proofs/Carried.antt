@@ -73,8 +73,8 @@ module _ (back : Bool) (s : Settings) (b : List ℕ) where
       }
 
   -- a buffer with a field seen so is that field's buffer, put back
-  as-buffer : (p : Field) (d e : List ℕ) → length d ≡ 9 * (s.nx * s.ny) → Became back s.nx s.ny d e p → e ≡ buffer_of s.nx s.ny (turned back p)
-  as-buffer p d e size w =
+  as_buffer : (p : Field) (d e : List ℕ) → length d ≡ 9 * (s.nx * s.ny) → Became back s.nx s.ny d e p → e ≡ buffer_of s.nx s.ny (turned back p)
+  as_buffer p d e size w =
       is_buffer s.nx s.ny e _ (w.size ∙ size)
       (record {
         here = λ x y i hx hy hi.
@@ -83,14 +83,14 @@ module _ (back : Bool) (s : Settings) (b : List ℕ) where
 
   pub is_carried : (d e : List ℕ) → length d ≡ 9 * (s.nx * s.ny) → Became back s.nx s.ny d e (next s (seen back s.nx s.ny b)) → e ≡ carried back s b
   unfolding carried
-  is_carried = as-buffer (next s (seen back s.nx s.ny b))
+  is_carried = as_buffer (next s (seen back s.nx s.ny b))
 
   -- the joined bits, from what was streamed and what the faces let in
   pub carried_joined : (d e g : List ℕ) {r q : ℕ} → length d ≡ 9 * (s.nx * s.ny) → Streamed back s.nx s.ny b d e → r ≡ joined_buffer e → g ≡ carried back s b → q ≡ faces_join back s g
       → bit_or r q ≡ carried_join back s b
   unfolding carried_join streamed_buffer
   carried_joined d e g size w rs is qs =
-      ap₂ bit_or (rs ∙ ap joined_buffer (as-buffer (streamed s.nx s.ny (seen back s.nx s.ny b)) d e size w)) (qs ∙ ap (faces_join back s) is)
+      ap₂ bit_or (rs ∙ ap joined_buffer (as_buffer (streamed s.nx s.ny (seen back s.nx s.ny b)) d e size w)) (qs ∙ ap (faces_join back s) is)
 
 -- forward it is the next population buffer
 pub carried_forward : (s : Settings) (post : List ℕ) → carried false s post ≡ next_buffer s post

@@ -99,25 +99,25 @@ none_of i d e = by_tests (eqb i d.n) (eqb i d.np) (eqb i d.nm) refl refl refl e
 -- ---- with the travel turned round
 
 module _ (back : Bool) where
-  facing-inj : (i j : ℕ) → i < 9 → j < 9 → facing back i ≡ facing back j → i ≡ j
-  facing-inj i j hi hj e = sym (facing_twice back i hi) ∙ ap (facing back) e ∙ facing_twice back j hj
+  facing_inj : (i j : ℕ) → i < 9 → j < 9 → facing back i ≡ facing back j → i ≡ j
+  facing_inj i j hi hj e = sym (facing_twice back i hi) ∙ ap (facing back) e ∙ facing_twice back j hj
 
   pub three_facing : (d : Names) → Apart (planes_of (λ j. j) d) → Apart (planes_of (facing back) d)
   three_facing d h =
       let s = h.small in
       record {
         small = record { n = facing_small back d.n s.n; np = facing_small back d.np s.np; nm = facing_small back d.nm s.nm };
-        n_np = λ e. h.n_np (facing-inj d.n d.np s.n s.np e);
-        n_nm = λ e. h.n_nm (facing-inj d.n d.nm s.n s.nm e);
-        np_nm = λ e. h.np_nm (facing-inj d.np d.nm s.np s.nm e);
+        n_np = λ e. h.n_np (facing_inj d.n d.np s.n s.np e);
+        n_nm = λ e. h.n_nm (facing_inj d.n d.nm s.n s.nm e);
+        np_nm = λ e. h.np_nm (facing_inj d.np d.nm s.np s.nm e);
       }
 
   pub other_facing : (i : ℕ) (d : Names) → i < 9 → Small (planes_of (λ j. j) d) → Other i (planes_of (λ j. j) d) → Other (facing back i) (planes_of (facing back) d)
   other_facing i d hi s o =
       record {
-        n = λ e. o.n (facing-inj i d.n hi s.n e);
-        np = λ e. o.np (facing-inj i d.np hi s.np e);
-        nm = λ e. o.nm (facing-inj i d.nm hi s.nm e);
+        n = λ e. o.n (facing_inj i d.n hi s.n e);
+        np = λ e. o.np (facing_inj i d.np hi s.np e);
+        nm = λ e. o.nm (facing_inj i d.nm hi s.nm e);
       }
 
 -- ---- a face as its cells need it, from its parts as the code makes them

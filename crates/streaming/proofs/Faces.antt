@@ -158,16 +158,16 @@ module _ (back : Bool) (a : Axis) (s : Side) (k : Face) (nx ny : ℕ) (post f e 
       let l = line_of a s nx ny in
       Along f e (nx * ny) l (planes_of (facing back) (names a s)) l.count (λ j. taken (spot l j))
 
-  at-cell : Settled → (x y i : ℕ) → x < nx → y < ny → i < 9 → (p q : Bool) → incoming a s i ≡ p → on_face s (size_of a nx ny) (coord_of a x y) ≡ q
+  at_cell : Settled → (x y i : ℕ) → x < nx → y < ny → i < 9 → (p q : Bool) → incoming a s i ≡ p → on_face s (size_of a nx ny) (coord_of a x y) ≡ q
       → seen back nx ny e x y i ≡ cond (p && q) (takes a s k (seen back nx ny post) (seen back nx ny f) x y i) (seen back nx ny f x y i)
   unfolding field_of
-  at-cell w x y i hx hy hi false q ep eq =
+  at_cell w x y i hx hy hi false q ep eq =
       w.planes (x + y * nx) (facing back i) (within x y nx ny hx hy)
       (other_facing back i (names a s) hi (sound a s).three.small (none_of i (names a s) (comes_in a s i hi ∙ ep)))
-  at-cell w x y i hx hy hi true false ep eq =
+  at_cell w x y i hx hy hi true false ep eq =
       w.cells (x + y * nx) (facing back i) (within x y nx ny hx hy)
       (λ j h c. off_line a s nx ny x y hx hy eq j (record { below = h; cell = c }))
-  at-cell w x y i hx hy hi true true ep eq =
+  at_cell w x y i hx hy hi true true ep eq =
       let on = on_line a s nx ny x y hx hy eq in
       let n = nx * ny in
       let c = x + y * nx in
@@ -182,5 +182,5 @@ module _ (back : Bool) (a : Axis) (s : Side) (k : Face) (nx ny : ℕ) (post f e 
       rw is
       (record {
         size = w.size;
-        field = record { here = λ x y i hx hy hi. at-cell w x y i hx hy hi (incoming a s i) (on_face s (size_of a nx ny) (coord_of a x y)) refl refl };
+        field = record { here = λ x y i hx hy hi. at_cell w x y i hx hy hi (incoming a s i) (on_face s (size_of a nx ny) (coord_of a x y)) refl refl };
       })

@@ -59,9 +59,9 @@ module _ (back : Bool) (s : Settings) (b : List ℕ) (x y i : ℕ) (hx : x < s.n
   Left = (p q : Field) → face a d (face_of s a d) s.nx s.ny p q x y i ≡ q x y i
 
   -- it came in, and was looked at
-  came-in : is_periodic (face_of s a d) ≡ false → clear_of (face_join back s a d b) ≡ true → incoming a d i ≡ true → on_face d (size_of a s.nx s.ny) (coord_of a x y) ≡ true → Told
+  came_in : is_periodic (face_of s a d) ≡ false → clear_of (face_join back s a d b) ≡ true → incoming a d i ≡ true → on_face d (size_of a s.nx s.ny) (coord_of a x y) ≡ true → Told
   unfolding face_join field_of
-  came-in shut clear into on =
+  came_in shut clear into on =
       let n = s.nx * s.ny in
       let l = line_of a d s.nx s.ny in
       let o = names a d in
@@ -79,7 +79,7 @@ module _ (back : Bool) (s : Settings) (b : List ℕ) (x y i : ℕ) (hx : x < s.n
     where
       go : (t u v : Bool) → is_periodic (face_of s a d) ≡ t → incoming a d i ≡ u → on_face d (size_of a s.nx s.ny) (coord_of a x y) ≡ v → Told ⊎ Left
       go true u v et eu ev = inr (λ p q. passed_by a d (face_of s a d) s.nx s.ny p q x y i et)
-      go false true true et eu ev = inl (came-in et clear eu ev)
+      go false true true et eu ev = inl (came_in et clear eu ev)
       go false true false et eu ev = inr (λ p q. rw (eu, ev))
       go false false v et eu ev = inr (λ p q. rw eu)
 

@@ -95,9 +95,9 @@ module _ (back : Bool) (p d : List ℕ) (nx ny : ℕ) where
       (rw zero-add u)
 
   -- an entry of the streamed buffer
-  flow-at : (x y i : ℕ) → x < nx → y < ny → i < 9 → flow back nx ny p (x + y * nx + facing back i * (nx * ny)) ≡ streamed nx ny (seen back nx ny p) x y i
+  flow_at : (x y i : ℕ) → x < nx → y < ny → i < 9 → flow back nx ny p (x + y * nx + facing back i * (nx * ny)) ≡ streamed nx ny (seen back nx ny p) x y i
   unfolding flow plane_at turned_plane streamed field_of
-  flow-at x y i hx hy hi =
+  flow_at x y i hx hy hi =
       let j = facing back i in
       let c : x + y * nx < nx * ny = within x y nx ny hx hy in
       rw (low (x + y * nx) j (nx * ny) c, high (x + y * nx) j (nx * ny) c, low x y nx hx, high x y nx hx, facing_twice back i hi)
@@ -114,7 +114,7 @@ module _ (back : Bool) (p d : List ℕ) (nx ny : ℕ) where
           field = record {
             here = λ x y i hx hy hi.
                 at (x + y * nx + facing back i * (nx * ny)) (cell_in (nx * ny) (x + y * nx) (facing back i) (within x y nx ny hx hy) (facing_small back i hi))
-                ∙ flow-at x y i hx hy hi;
+                ∙ flow_at x y i hx hy hi;
           };
         },
         j ∙ sym (joined_same (λ k. get_or e k 0) (flow back nx ny p) (9 * (nx * ny)) at) ∙ ap (joined_to (λ k. get_or e k 0)) (sym (w.size ∙ size)),

@@ -93,9 +93,9 @@ pub moved_in : (c : Step) (n k : ℕ) → k < n → moved c n k < n
 moved_in c n k h = turn_lt n _ k (omega arith)
 
 module _ (s : Settings) (e : Entry) (on : On s.nx s.ny e) where
-  came-on : On s.nx s.ny (came s e)
+  came_on : On s.nx s.ny (came s e)
   unfolding came
-  came-on =
+  came_on =
       record {
         x_in = moved_in (against (part X e.i)) s.nx e.x on.x_in;
         y_in = moved_in (against (part Y e.i)) s.ny e.y on.y_in;
@@ -104,7 +104,7 @@ module _ (s : Settings) (e : Entry) (on : On s.nx s.ny e) where
 
   pub source_on : On s.nx s.ny (source s e)
   unfolding source
-  source_on = back_on s.nx s.ny e on Y (enters s Y e) _ (back_on s.nx s.ny e on X (enters s X e) _ came-on)
+  source_on = back_on s.nx s.ny e on Y (enters s Y e) _ (back_on s.nx s.ny e on X (enters s X e) _ came_on)
 
 -- ---- THE TARGET IS THE SOURCE with opposite directions swapped before and after
 
@@ -120,20 +120,20 @@ module _ (nx ny : ℕ) (e : Entry) (on : On nx ny e) where
   swapped true o p q r h l = h
   swapped false o p q r h l = l
 
-  back-opposite : (a : Axis) (k : Face) (o p : Entry) → o ≡ opposite p → turned_back a k e o ≡ opposite (turned_back a k (opposite e) p)
-  back-opposite a k o p h = swapped (is_periodic k) o _ p _ h (ap (entry e.x e.y) (reflected (is_symmetry k) a))
+  back_opposite : (a : Axis) (k : Face) (o p : Entry) → o ≡ opposite p → turned_back a k e o ≡ opposite (turned_back a k (opposite e) p)
+  back_opposite a k o p h = swapped (is_periodic k) o _ p _ h (ap (entry e.x e.y) (reflected (is_symmetry k) a))
 
 module _ (s : Settings) (e : Entry) (on : On s.nx s.ny e) where
-  goes-opposite : goes s e ≡ opposite (came s (opposite e))
+  goes_opposite : goes s e ≡ opposite (came s (opposite e))
   unfolding goes came
-  goes-opposite =
+  goes_opposite =
       let i = e.i in
       let h = on.i_in in
       rw (opposite_part X i h, opposite_part Y i h, opposite_twice i h, against_twice (part X i), against_twice (part Y i))
 
   pub conjugate : target s e ≡ opposite (source s (opposite e))
   unfolding source target
-  conjugate = back-opposite s.nx s.ny e on Y (leaves s Y e) _ _ (back-opposite s.nx s.ny e on X (leaves s X e) _ _ goes-opposite)
+  conjugate = back_opposite s.nx s.ny e on Y (leaves s Y e) _ _ (back_opposite s.nx s.ny e on X (leaves s X e) _ _ goes_opposite)
 
   pub target_on : On s.nx s.ny (target s e)
   target_on =

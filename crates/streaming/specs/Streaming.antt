@@ -4,7 +4,7 @@ use Rattle.lattice.specs.declared.Axis.TheVariants.{X, Y}
 use Rattle.lattice.specs.declared.Side.TheVariants.{Min, Max}
 use Rattle.grid.specs.Grid.{Field, field_of, buffer_of}
 use Rattle.settings.specs.declared.Settings.{Settings}
-use Rattle.settings.specs.Refusals.{refusal, streamWithFaces}
+use Rattle.settings.specs.Refusals.{refusal, stream_with_faces}
 use Rattle.settings.specs.Outcome.{Written, written}
 use Rattle.streaming.specs.Travel.{streamed}
 use Rattle.streaming.specs.Faces.{face}
@@ -29,4 +29,4 @@ next_buffer s post = buffer_of s.nx s.ny (next s (field_of s.nx s.ny post))
 
 -- the operation's outcome: the number, and the next population buffer; refused, the population buffer as it was
 abbrev pub streamed_with_faces : Settings → List ℕ → List ℕ → Written
-streamed_with_faces s post f = written (refusal (streamWithFaces s (length post) (length f))) f (next_buffer s post)
+streamed_with_faces s post f = written (refusal (stream_with_faces s (length post) (length f))) f (next_buffer s post)

@@ -15,7 +15,7 @@ use Rattle.tally.proofs.Tallies.{moved_is_fresh}
 
 module _ (s : Settings) (x y i v : ℕ) (f : List ℕ) (b : Buffer s.nx s.ny f) where
   abbrev number : ℕ
-  number = refusal (Call.writeEntry s (length f) x y i)
+  number = refusal (Call.write_entry s (length f) x y i)
 
   -- the tally is that of the populations
   abbrev Own : Entered → Type 0
@@ -26,7 +26,7 @@ module _ (s : Settings) (x y i v : ℕ) (f : List ℕ) (b : Buffer s.nx s.ny f) 
     where
       go : Dec (number ≡ 0) → Own (entry_written s x y i v f (tally_of (s.nx * s.ny) f))
       go (yes zero) =
-          let k = known (Call.writeEntry s (length f) x y i) zero in
+          let k = known (Call.write_entry s (length f) x y i) zero in
           let at = k.1.1.0 in
           subst Own (answered _ refl zero refl) (moved_is_fresh s.nx s.ny x y i v f b at.column at.row k.1.1.1.0)
       go (no d) = subst Own (refused _ (λ n. entered n f (tally_of (s.nx * s.ny) f)) refl d) refl

@@ -77,5 +77,5 @@ pub record Read (file : List ℕ) (len : ℕ) : Type 0 where
 
 pub accepted_as : (file : List ℕ) (len : ℕ) → read_refusal file len ≡ 0 → Read file len
 accepted_as file len zero =
-    let k = known (Call.readTally (length file) (part_at 4 file 0) (part_at 1 file 4) (ten_of file) len) zero in
+    let k = known (Call.read_tally (length file) (part_at 4 file 0) (part_at 1 file 4) (ten_of file) len) zero in
     record { size = k.1.1.0.size; count = k.1.1.0.count_is; version = k.1.0; wraps = k.1.1.1.0; lent = k.1.1.1.1.0 }

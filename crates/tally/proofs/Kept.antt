@@ -9,7 +9,7 @@ use Rattle.sums.specs.Sums.{wrapped}
 use Rattle.sums.proofs.Sums.{sum_cong, Inverse, permuted}
 use Rattle.settings.specs.declared.Settings.{Settings}
 use Rattle.settings.specs.Tests.{driven, lossy}
-use Rattle.settings.specs.Refusals.{refusal, streamWithFaces, lossless}
+use Rattle.settings.specs.Refusals.{refusal, stream_with_faces, lossless}
 use Rattle.settings.specs.Outcome.{Written}
 use Rattle.settings.proofs.Laws.{known}
 use Rattle.settings.proofs.Outcome.{answered}
@@ -31,8 +31,8 @@ module _ (nx ny : ℕ) where
   abbrev entry_at : ℕ → Entry
   entry_at k = entry (k % (nx * ny) % nx) (k % (nx * ny) / nx) (k / (nx * ny))
 
-  entry-on : (k : ℕ) → k < 9 * (nx * ny) → On nx ny (entry_at k)
-  entry-on k h = let q = place_of_lem nx ny k h in record { x_in = q.column; y_in = q.row; i_in = q.direction }
+  entry_on : (k : ℕ) → k < 9 * (nx * ny) → On nx ny (entry_at k)
+  entry_on k h = let q = place_of_lem nx ny k h in record { x_in = q.column; y_in = q.row; i_in = q.direction }
 
   entry_of : (e : Entry) → On nx ny e → entry_at (index_of nx ny e) ≡ e
   entry_of e on =
@@ -51,14 +51,14 @@ module _ (nx ny : ℕ) where
     unfolding along
     along-in k h =
         let e = m (entry_at k) in
-        let on = stays (entry_at k) (entry-on k h) in
+        let on = stays (entry_at k) (entry_on k h) in
         index_in nx ny e.x e.y e.i on.x_in on.y_in on.i_in
 
     -- which another map of entries undoes
     undone : (w : Entry → Entry) → ((e : Entry) → On nx ny e → w (m e) ≡ e) → (k : ℕ) → k < 9 * (nx * ny) → along w (along m k) ≡ k
     unfolding along
     undone w back k h =
-        let on = entry-on k h in
+        let on = entry_on k h in
         ap (λ (e : Entry). index_of nx ny (w e)) (entry_of (m (entry_at k)) (stays (entry_at k) on))
         ∙ ap (index_of nx ny) (back (entry_at k) on)
         ∙ (place_of_lem nx ny k h).back
@@ -83,16 +83,16 @@ module _ (s : Settings) (l : lossy s ≡ false) where
       (sum_cong (9 * (nx * ny)) (λ k. get_or (next_buffer s post) k 0) (λ k. get_or post (along nx ny (source s) k) 0)
       (λ k h.
       ap (λ (j : ℕ). get_or (next_buffer s post) j 0) (sym (place_of_lem nx ny k h).back)
-      ∙ next_at s calm post (entry_at nx ny k) (entry-on nx ny k h))
+      ∙ next_at s calm post (entry_at nx ny k) (entry_on nx ny k h))
       ∙ permuted (9 * (nx * ny)) (λ k. get_or post k 0) (along nx ny (source s)) (along nx ny (target s)) inverse)
 
 -- ON EVERY LOSSLESS GRID, in the words of the question and of the operation: where `lossless` answers Lossless and streaming with
 -- faces is not refused, what it leaves has the first number of what it was given
 pub lossless_total : (s : Settings) (post f : List ℕ) → lossless_of s ≡ The.Lossless
-    → refusal (streamWithFaces s (length post) (length f)) ≡ 0
+    → refusal (stream_with_faces s (length post) (length f)) ≡ 0
     → total (s.nx * s.ny) (streamed_with_faces s post f).buffer ≡ total (s.nx * s.ny) post
 lossless_total s post f answer zero =
-    let grid = (known (streamWithFaces s (length post) (length f)) zero).0 in
+    let grid = (known (stream_with_faces s (length post) (length f)) zero).0 in
     let asked = sym (number_said s) ∙ ap number_of answer in
     let calm = (known (lossless s) asked).1.1.0 in
     let whole : Lossless s = subst (Says s) answer (says s asked) in

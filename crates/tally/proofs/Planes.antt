@@ -64,9 +64,9 @@ pub record Stands (nx ny len x y i : ℕ) : Type 0 where
   pub inside : x + y * nx + i * (nx * ny) < len
   pub direction : i < 9
 
-pub stands : (s : Settings) (len x y i : ℕ) → refusal (Call.writeEntry s len x y i) ≡ 0 → Stands s.nx s.ny len x y i
+pub stands : (s : Settings) (len x y i : ℕ) → refusal (Call.write_entry s len x y i) ≡ 0 → Stands s.nx s.ny len x y i
 stands s len x y i zero =
-    let k = known (Call.writeEntry s len x y i) zero in
+    let k = known (Call.write_entry s len x y i) zero in
     let at = k.1.1.0 in
     let hi = k.1.1.1.0 in
     record {

@@ -64,15 +64,15 @@ module _ (i old new : ℕ) (t : List ℕ) (size : length t ≡ 10) (hi : i < 9) 
   unfolding moved
   moved_length = simp length-set size
 
-  moved-first : get_or (moved i old new t) 0 0 ≡ moved_by old new (get_or t 0 0)
+  moved_first : get_or (moved i old new t) 0 0 ≡ moved_by old new (get_or t 0 0)
   unfolding moved
-  moved-first =
+  moved_first =
       get_or-set_other (set t 0 (moved_by old new (get_or t 0 0))) (i + 1) 0 (moved_by old new (plane_in t i)) 0 (λ p. omega arith)
       ∙ get_or-set_same t 0 (moved_by old new (get_or t 0 0)) 0 (omega arith)
 
-  moved-plane : plane_in (moved i old new t) i ≡ moved_by old new (plane_in t i)
+  moved_plane : plane_in (moved i old new t) i ≡ moved_by old new (plane_in t i)
   unfolding moved
-  moved-plane =
+  moved_plane =
       get_or-set_same (set t 0 (moved_by old new (get_or t 0 0))) (i + 1) (moved_by old new (plane_in t i)) 0
       (omega (arith, length-set t 0 (moved_by old new (get_or t 0 0))))
 
@@ -88,10 +88,10 @@ module _ (i old new : ℕ) (t : List ℕ) (size : length t ≡ 10) (hi : i < 9) 
   stays_wrapped e =
       let u = moved i old new t in
       same_wrapped (sum 9 (plane_in u)) (sum 9 (plane_in t)) (plane_in t i) (less new old)
-      (sum_changed 9 i (plane_in u) (plane_in t) hi moved_other ∙ ap (λ (a : ℕ). sum 9 (plane_in t) + a) moved-plane)
+      (sum_changed 9 i (plane_in u) (plane_in t) hi moved_other ∙ ap (λ (a : ℕ). sum 9 (plane_in t) + a) moved_plane)
       ∙ sym (moved_wrapped (sum 9 (plane_in t)) old new)
       ∙ ap (moved_by old new) e
-      ∙ sym moved-first
+      ∙ sym moved_first
 
 -- ---- ONE CHANGED ENTRY MOVES THE TALLY TO THE FRESH ONE
 
@@ -111,21 +111,21 @@ module _ (nx ny x y i v : ℕ) (f : List ℕ) (b : Buffer nx ny f) (hx : x < nx)
   in_buffer : place < 9 * n
   in_buffer = index_in nx ny x y i hx hy hi
 
-  new-there : get_or after place 0 ≡ v
-  new-there = get_or-set_same f place v 0 (omega (arith, in_buffer, b.size))
+  new_there : get_or after place 0 ≡ v
+  new_there = get_or-set_same f place v 0 (omega (arith, in_buffer, b.size))
 
-  else-where : (k : ℕ) → (k ≡ place → ⊥) → get_or after k 0 ≡ get_or f k 0
-  else-where k d = get_or-set_other f place k v 0 d
+  else_where : (k : ℕ) → (k ≡ place → ⊥) → get_or after k 0 ≡ get_or f k 0
+  else_where k d = get_or-set_other f place k v 0 d
 
   -- of m entries, where g finds them, the one at j is changed
   sum_moved : (m j : ℕ) (g : ℕ → ℕ) → j < m → g j ≡ place → ((k : ℕ) → (k ≡ j → ⊥) → g k ≡ place → ⊥)
       → moved_by old v (wrapped (sum m (λ k. get_or f (g k) 0))) ≡ wrapped (sum m (λ k. get_or after (g k) 0))
   sum_moved m j g h there apart =
       let was : get_or f (g j) 0 ≡ old = ap (λ (k : ℕ). get_or f k 0) there in
-      let is : get_or after (g j) 0 ≡ v = ap (λ (k : ℕ). get_or after k 0) there ∙ new-there in
+      let is : get_or after (g j) 0 ≡ v = ap (λ (k : ℕ). get_or after k 0) there ∙ new_there in
       moved_sum (sum m (λ k. get_or f (g k) 0)) (sum m (λ k. get_or after (g k) 0)) old v (b.words place)
       (ap (λ (a : ℕ). sum m (λ k. get_or after (g k) 0) + a) (sym was)
-      ∙ sum_changed m j (λ k. get_or after (g k) 0) (λ k. get_or f (g k) 0) h (λ k d. else-where (g k) (apart k d))
+      ∙ sum_changed m j (λ k. get_or after (g k) 0) (λ k. get_or f (g k) 0) h (λ k d. else_where (g k) (apart k d))
       ∙ ap (λ (a : ℕ). sum m (λ k. get_or f (g k) 0) + a) is)
 
   pub total_moved : moved_by old v (total n f) ≡ total n after
@@ -136,23 +136,23 @@ module _ (nx ny x y i v : ℕ) (f : List ℕ) (b : Buffer nx ny f) (hx : x < nx)
   unfolding plane
   plane_moved = sum_moved n (x + y * nx) (λ c. c + i * n) (within x y nx ny hx hy) refl (λ c d p. d (omega arith))
 
-  plane-other : (k : ℕ) → (k ≡ i → ⊥) → plane n f k ≡ plane n after k
+  plane_other : (k : ℕ) → (k ≡ i → ⊥) → plane n f k ≡ plane n after k
   unfolding plane
-  plane-other k d =
+  plane_other k d =
       ap wrapped
       (sum_cong n (λ c. get_or f (c + k * n) 0) (λ c. get_or after (c + k * n) 0)
-      (λ c h. sym (else-where (c + k * n) (λ p. d (high_inj n c k (x + y * nx) i h (within x y nx ny hx hy) p)))))
+      (λ c h. sym (else_where (c + k * n) (λ p. d (high_inj n c k (x + y * nx) i h (within x y nx ny hx hy) p)))))
 
   pub moved_is_fresh : moved i old v (tally_of n f) ≡ tally_of n after
   moved_is_fresh =
       let t = tally_of n f in
       let size = tally_length n f in
       is_tally n after (moved i old v t) (moved_length i old v t size hi)
-      (moved-first i old v t size hi ∙ ap (moved_by old v) (total_at n f) ∙ total_moved)
+      (moved_first i old v t size hi ∙ ap (moved_by old v) (total_at n f) ∙ total_moved)
       (λ k h. go k h (ℕ_discrete k i))
     where
       go : (k : ℕ) → k < 9 → Dec (k ≡ i) → plane_in (moved i old v (tally_of n f)) k ≡ plane n after k
       go k h (yes e) =
           rw e
-          (moved-plane i old v (tally_of n f) (tally_length n f) hi ∙ ap (moved_by old v) (plane_at n f i hi) ∙ plane_moved)
-      go k h (no d) = moved_other i old v (tally_of n f) (tally_length n f) hi k d ∙ plane_at n f k h ∙ plane-other k d
+          (moved_plane i old v (tally_of n f) (tally_length n f) hi ∙ ap (moved_by old v) (plane_at n f i hi) ∙ plane_moved)
+      go k h (no d) = moved_other i old v (tally_of n f) (tally_length n f) hi k d ∙ plane_at n f k h ∙ plane_other k d

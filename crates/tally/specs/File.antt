@@ -19,12 +19,12 @@ ten_of file = cond (eqb (length file) 85) (numbers_at 8 10 file 5) (replicate 10
 
 -- the number that refuses the file, where the lent tally has that length
 abbrev pub read_refusal : List ℕ → ℕ → ℕ
-read_refusal file len = refusal (Call.readTally (length file) (part_at 4 file 0) (part_at 1 file 4) (ten_of file) len)
+read_refusal file len = refusal (Call.read_tally (length file) (part_at 4 file 0) (part_at 1 file 4) (ten_of file) len)
 
 -- ---- outcomes
 
 abbrev pub tally_written : List ℕ → List ℕ → Written
-tally_written t file = written (refusal (Call.writeTally t (length file))) file (file_of t)
+tally_written t file = written (refusal (Call.write_tally t (length file))) file (file_of t)
 
 abbrev pub tally_read : List ℕ → List ℕ → Written
 tally_read file t = written (read_refusal file (length t)) t (ten_of file)

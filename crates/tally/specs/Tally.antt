@@ -51,6 +51,6 @@ entered number f tally = record { number = number; f = f; tally = tally }
 -- v is written as entry (x, y, i) of f; a refusal leaves f and the tally as they were
 abbrev pub entry_written : Settings → ℕ → ℕ → ℕ → ℕ → List ℕ → List ℕ → Entered
 entry_written s x y i v f t =
-    let number = refusal (Call.writeEntry s (length f) x y i) in
+    let number = refusal (Call.write_entry s (length f) x y i) in
     let at = index s.nx s.ny x y i in
     answer number (entered 0 (set f at v) (moved i (get_or f at 0) v t)) (entered number f t)

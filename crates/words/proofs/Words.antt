@@ -74,16 +74,16 @@ spell v i acc e =
 -- bytes j, .., n - 1 of b are those of v
 module _ (b : List ℕ) (at n v : ℕ) (here : (k : ℕ) → k < n → get_or b (at + k) 0 ≡ get_or (big n v) k 0) (fits : v < 256 ^ n) where
   -- the first j bytes spell v without its last i
-  first-bytes : (j i : ℕ) → j + i ≡ n → number_at j b at ≡ v / 256 ^ i
+  first_bytes : (j i : ℕ) → j + i ≡ n → number_at j b at ≡ v / 256 ^ i
   unfolding number_at
-  first-bytes zero i e = let p : n ≡ i = omega arith in sym (div-eq_of_lt (rw p at fits))
-  first-bytes (suc j) i e =
+  first_bytes zero i e = let p : n ≡ i = omega arith in sym (div-eq_of_lt (rw p at fits))
+  first_bytes (suc j) i e =
       let p : n - 1 - j ≡ i = omega arith in
       ap (λ (a : ℕ). number_at j b at * 256 + a) (here j (omega arith) ∙ big_at n v j (omega arith) ∙ ap (byte_of v) p)
-      ∙ spell v i (number_at j b at) (first-bytes j (suc i) (omega arith))
+      ∙ spell v i (number_at j b at) (first_bytes j (suc i) (omega arith))
 
   pub spelled : number_at n b at ≡ v
-  spelled = first-bytes n 0 (omega arith) ∙ div-one v
+  spelled = first_bytes n 0 (omega arith) ∙ div-one v
 
 -- ---- AND BYTES ARE THOSE OF THE NUMBER that they spell
 

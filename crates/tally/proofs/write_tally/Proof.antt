@@ -21,11 +21,11 @@ returns c =
     let a = r.before.before.args in
     refused (outcome 0 (file_of a.t.now)) (λ number. outcome number a.file.now) r.write-tally-refusal.ensures c.if1.true
 
-passed : (c : tie.Else1) → let a = c.before.before.before.args in All (tests (Call.writeTally a.t.now (length a.file.now)))
+passed : (c : tie.Else1) → let a = c.before.before.before.args in All (tests (Call.write_tally a.t.now (length a.file.now)))
 passed c =
     let r = c.before in
     let a = r.before.before.args in
-    known (Call.writeTally a.t.now (length a.file.now)) (sym r.write-tally-refusal.ensures ∙ c.if1.false)
+    known (Call.write_tally a.t.now (length a.file.now)) (sym r.write-tally-refusal.ensures ∙ c.if1.false)
 
 put-number-requires : tie.Need-put-number-requires
 put-number-requires c κs = let k = passed c.before in (omega arith, omega (arith, k.1.0))
