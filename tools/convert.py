@@ -164,6 +164,19 @@ class Function:
             else:
                 self.helpers.append(b)
 
+    def measures(self):
+        """Invariants and measures that stand in tie.spec itself become declarations."""
+        extra = len(self.args) - len(self.info["needs"])
+        for i, a in enumerate(self.args[:extra]):
+            m = re.match(r"^\(λ ([^.]*)\.(.*)\)$", a, re.S)
+            if a in self.invs or not m:
+                continue
+            kind = "decreases" if re.fullmatch(r"\s*\S+ - \S+\s*", m[2]) else "invariant"
+            loop = self.info["loops"][0][0][0]
+            name = f"{kind}-{loop}"
+            self.invs[name] = f"abbrev {name} : tie.{kind}-{loop}\n{name} {m[1]} ={m[2]}"
+            self.args[i] = name
+
     def inlined(self):
         """Of each helper over a context: its name, its type, its equation over the flat context, and its unfolding lines."""
         out = []
@@ -372,6 +385,7 @@ def main(argv):
         if fn.args is None:
             print(f"left: {path}: walked by hand")
             continue
+        fn.measures()
         answers, texts = [], []
         for name, old, b in fn.goals:
             if flat(old).startswith("same_length"):

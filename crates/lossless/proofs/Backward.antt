@@ -10,7 +10,7 @@ use Rattle.settings.specs.declared.Settings.{Settings}
 use Rattle.settings.specs.Tests.{driven, lossy}
 use Rattle.streaming.specs.Streaming.{next, next_buffer}
 use Rattle.streaming.specs.Turned.{turned, carried}
-use Rattle.streaming.specs.Source.{Entry, entry, On, index_of, held, opposite, source, target}
+use Rattle.streaming.specs.Source.{Entry, entry, On, index_of, held, source, target}
 use Rattle.streaming.proofs.Source.{copied, source_on, target_on, turned_around}
 use Rattle.lossless.specs.Lossless.{reversed, reverse_buffer}
 use Rattle.lossless.proofs.Criterion.{there, again}

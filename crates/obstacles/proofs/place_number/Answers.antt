@@ -1,5 +1,4 @@
 -- `obstacles::place_number` meets its contract.
-use borrow.Author.Rules.{rules}
 use Rattle.obstacles.specs.Turns.{place_number}
 use Rattle.obstacles.proofs.place_number.Goals as goal
 

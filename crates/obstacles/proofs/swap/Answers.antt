@@ -1,6 +1,5 @@
 -- `obstacles::swap` meets its contract: the four exchanges, one after the other, are the opposites.
 use Rattle.obstacles.proofs.Cell.{put_four}
-use borrow.Author.Rules.{rules}
 use Rattle.obstacles.proofs.swap.Goals as goal
 
 pub returns : goal.returns

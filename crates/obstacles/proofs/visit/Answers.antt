@@ -1,7 +1,6 @@
 -- `obstacles::visit` meets its contract.
 use borrow.Author.Tests.{lt-ltb, le-ltb, eq-eqb, ne_eqb}
 use Rattle.obstacles.specs.Turns.{turned}
-use borrow.Author.Rules.{rules}
 use Rattle.obstacles.proofs.visit.Goals as goal
 
 pub returns-then-j-n : goal.returns-then-j-n
