@@ -101,14 +101,14 @@ pub reverse_one : (κs : Lfts 3) (a : ArgsD brothwagon_reverse.signature κs) (r
     → reverse-reads.Post κs a r s → reverse-reads.Post κs a q t → (r ≡ q) × (s.1.1.0.now ≡ t.1.1.0.now)
 reverse_one κs a r q s t p p' = both (p ∙ sym p')
 
--- The checker reads no clauses out of a function that is proved by hand: this is what it ensures, and `no_slip_ensures_is` holds it to them.
+-- What the function ensures, written out: `no_slip_ensures_is` holds it to the clauses.
 module _ (κs : Lfts 3) (a : ArgsD brothwagon_set_no_slip_bc.signature κs) where
   abbrev pub NoSlipEnsures : ℕ → AtExit brothwagon_set_no_slip_bc.ended κs → Type 0
   NoSlipEnsures r s = outcome r s.1.1.0.now ≡ no_slip_set (settings_of a.0.now) a.1.0.now a.1.1.0.now
 
   pub no_slip_ensures_is : {M : Type 1} {𝓤 : Ura M} (𝓛 : Logic 𝓤) (mem : Memory → SProp 𝓤) (run : Routine → Fun 𝓤)
       (r : ℕ) (s : AtExit brothwagon_set_no_slip_bc.ended κs)
-      → brothwagon_set_no_slip_bc.clauses 𝓛 mem run (κs a).ensures tt r s ≡ fact 𝓤 (NoSlipEnsures r s)
+      → (brothwagon_set_no_slip_bc.clauses 𝓛 mem run κs a).ensures tt r s ≡ fact 𝓤 (NoSlipEnsures r s)
   no_slip_ensures_is 𝓛 mem run r s = refl
 
   pub set_no_slip_bc_one : (r q : ℕ) (s t : AtExit brothwagon_set_no_slip_bc.ended κs) → NoSlipEnsures r s → NoSlipEnsures q t

@@ -1,5 +1,5 @@
 -- What the exported functions leave with a host: the outcomes of the operations, with every value of an answer as a word.
-use Rattle.std.specs.Prelude.{Bool, cond, List, [], ◌∷◌, ℕ, length}
+use Rattle.std.specs.Prelude.{cond, List, [], ◌∷◌, ℕ, length}
 use Rattle.number.specs.Number.{pattern_of}
 use Rattle.settings.specs.declared.Settings.{Settings}
 use Rattle.settings.specs.Refusals as Call

@@ -7,8 +7,10 @@ mod refused;
 mod tallies;
 mod written;
 
-fn main() {
-    written::all();
-    refused::all();
-    tallies::all();
+use std::io;
+
+fn main(rt: HostRuntime) -> io::Result<()> {
+    written::all(&rt)?;
+    refused::all(&rt)?;
+    tallies::all(&rt)
 }

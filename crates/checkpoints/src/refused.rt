@@ -4,6 +4,7 @@ use crate::{given, lines};
 use checkpoint::Stored;
 use settings::Settings;
 use show::{CANARY, kept};
+use std::io;
 
 fn zeros(r: Stored) -> bool {
     (r.nx == 0) & (r.ny == 0) & (r.step == 0)
@@ -11,73 +12,74 @@ fn zeros(r: Stored) -> bool {
 
 // ---- reading: a good file of 85 bytes, and one more behind it, with byte k turned to another, and cut to a length
 
-fn asked(k: usize, byte: u8, file: &[u8]) {
+fn asked(rt: &impl Print, k: usize, byte: u8, file: &[u8]) -> io::Result<()> {
     let r = checkpoint::checkpoint_sides(file);
-    lines::changed(b"checkpoint_sides", k, byte, file.len(), r.number);
-    show::holds(zeros(r), b", zeros");
-    show::newline();
+    lines::changed(rt, b"checkpoint_sides", k, byte, file.len(), r.number)?;
+    show::holds(rt, zeros(r), b", zeros")?;
+    show::newline(rt)
 }
 
-fn read(k: usize, byte: u8, file: &[u8], f: &mut [u64]) {
+fn read(rt: &impl Print, k: usize, byte: u8, file: &[u8], f: &mut [u64]) -> io::Result<()> {
     let r = checkpoint::read_checkpoint(file, f);
-    lines::changed(b"read_checkpoint", k, byte, file.len(), r.number);
-    show::holds(zeros(r), b", zeros");
-    show::value(b", ", f.len() as u64);
-    show::holds(kept(f), b" left");
-    show::newline();
+    lines::changed(rt, b"read_checkpoint", k, byte, file.len(), r.number)?;
+    show::holds(rt, zeros(r), b", zeros")?;
+    show::value(rt, b", ", f.len() as u64)?;
+    show::holds(rt, kept(f), b" left")?;
+    show::newline(rt)
 }
 
-fn both(k: usize, byte: u8, length: usize) {
+fn both(rt: &impl Print, k: usize, byte: u8, length: usize) -> io::Result<()> {
     let file = changed(k, byte);
     if length <= 86 {
         let mut f = [CANARY; 9];
-        asked(k, byte, &file[0..length]);
-        read(k, byte, &file[0..length], &mut f);
+        asked(rt, k, byte, &file[0..length])?;
+        read(rt, k, byte, &file[0..length], &mut f)?;
     }
+    Ok(())
 }
 
-fn cut() {
-    both(4, 1, 0);
-    both(4, 1, 4);
-    both(4, 1, 5);
-    both(4, 1, 8);
-    both(4, 1, 9);
-    both(4, 1, 12);
-    both(4, 1, 84);
-    both(4, 1, 86);
+fn cut(rt: &impl Print) -> io::Result<()> {
+    both(rt, 4, 1, 0)?;
+    both(rt, 4, 1, 4)?;
+    both(rt, 4, 1, 5)?;
+    both(rt, 4, 1, 8)?;
+    both(rt, 4, 1, 9)?;
+    both(rt, 4, 1, 12)?;
+    both(rt, 4, 1, 84)?;
+    both(rt, 4, 1, 86)
 }
 
 // Versions 0 and 2, and 2 where the sides are cut short too.
-fn versions() {
-    both(4, 0, 85);
-    both(4, 2, 85);
-    both(4, 2, 5);
+fn versions(rt: &impl Print) -> io::Result<()> {
+    both(rt, 4, 0, 85)?;
+    both(rt, 4, 2, 85)?;
+    both(rt, 4, 2, 5)
 }
 
-fn counts() {
-    both(3, 80, 85);
-    both(3, 82, 85);
-    both(3, 82, 86);
-    both(0, 1, 85);
+fn counts(rt: &impl Print) -> io::Result<()> {
+    both(rt, 3, 80, 85)?;
+    both(rt, 3, 82, 85)?;
+    both(rt, 3, 82, 86)?;
+    both(rt, 0, 1, 85)
 }
 
 // 0 by 1; 1 by 0, cut short too; 4097 by 1 and 1 by 4097, whose count is wrong too; 1 by 2.
-fn sides() {
-    both(6, 0, 85);
-    both(8, 0, 9);
-    both(5, 16, 85);
-    both(7, 16, 12);
-    both(8, 2, 85);
+fn sides(rt: &impl Print) -> io::Result<()> {
+    both(rt, 6, 0, 85)?;
+    both(rt, 8, 0, 9)?;
+    both(rt, 5, 16, 85)?;
+    both(rt, 7, 16, 12)?;
+    both(rt, 8, 2, 85)
 }
 
 // A buffer that does not fit, which is told last.
-fn lent() {
+fn lent(rt: &impl Print) -> io::Result<()> {
     let file = given::file();
     let mut short = [CANARY; 8];
     let mut long = [CANARY; 10];
-    read(4, 1, &file[0..85], &mut short);
-    read(4, 1, &file[0..85], &mut long);
-    read(4, 1, &file[0..84], &mut short);
+    read(rt, 4, 1, &file[0..85], &mut short)?;
+    read(rt, 4, 1, &file[0..85], &mut long)?;
+    read(rt, 4, 1, &file[0..84], &mut short)
 }
 
 // ---- writing
@@ -96,49 +98,49 @@ pub fn bytes_kept(file: &[u8]) -> bool {
     true
 }
 
-fn write(case: &[u8], s: Settings, f: &[u64], file: &mut [u8]) {
+fn write(rt: &impl Print, case: &[u8], s: Settings, f: &[u64], file: &mut [u8]) -> io::Result<()> {
     let number = checkpoint::write_checkpoint(s, 1, f, file);
-    show::gives(b"write_checkpoint", case, number);
-    show::holds(bytes_kept(file), b", left");
-    show::newline();
+    show::gives(rt, b"write_checkpoint", case, number)?;
+    show::holds(rt, bytes_kept(file), b", left")?;
+    show::newline(rt)
 }
 
 // On a file of the right length for one cell.
-fn write_one(case: &[u8], s: Settings, f: &[u64]) {
+fn write_one(rt: &impl Print, case: &[u8], s: Settings, f: &[u64]) -> io::Result<()> {
     let mut file = [BYTE; 85];
-    write(case, s, f, &mut file);
+    write(rt, case, s, f, &mut file)
 }
 
-fn writing() {
-    write_one(b"0 by 1", sized(0, 1), &F);
-    write_one(b"1 by 4097", sized(1, 4097), &F);
-    write_one(b"4096 by 257", sized(4096, 257), &F);
-    write_one(b"populations 8", sized(1, 1), &[CANARY; 8]);
-    write_one(b"populations 10", sized(1, 1), &[CANARY; 10]);
+fn writing(rt: &impl Print) -> io::Result<()> {
+    write_one(rt, b"0 by 1", sized(0, 1), &F)?;
+    write_one(rt, b"1 by 4097", sized(1, 4097), &F)?;
+    write_one(rt, b"4096 by 257", sized(4096, 257), &F)?;
+    write_one(rt, b"populations 8", sized(1, 1), &[CANARY; 8])?;
+    write_one(rt, b"populations 10", sized(1, 1), &[CANARY; 10])
 }
 
-fn rooms() {
+fn rooms(rt: &impl Print) -> io::Result<()> {
     let mut short = [BYTE; 84];
     let mut long = [BYTE; 86];
-    write(b"file 84", sized(1, 1), &F, &mut short);
-    write(b"file 86", sized(1, 1), &F, &mut long);
-    write(b"0 by 1, file 84", sized(0, 1), &F, &mut short);
+    write(rt, b"file 84", sized(1, 1), &F, &mut short)?;
+    write(rt, b"file 86", sized(1, 1), &F, &mut long)?;
+    write(rt, b"0 by 1, file 84", sized(0, 1), &F, &mut short)
 }
 
 // Sides whose product, and whose file's length, would wrap to those of no cell.
-fn wrapping() {
+fn wrapping(rt: &impl Print) -> io::Result<()> {
     let mut head = [BYTE; 13];
     let s = sized(4294967296, 4294967296);
-    write(b"4294967296 by 4294967296", s, &[0; 0], &mut head);
+    write(rt, b"4294967296 by 4294967296", s, &[0; 0], &mut head)
 }
 
-pub fn all() {
-    cut();
-    versions();
-    counts();
-    sides();
-    lent();
-    writing();
-    rooms();
-    wrapping();
+pub fn all(rt: &impl Print) -> io::Result<()> {
+    cut(rt)?;
+    versions(rt)?;
+    counts(rt)?;
+    sides(rt)?;
+    lent(rt)?;
+    writing(rt)?;
+    rooms(rt)?;
+    wrapping(rt)
 }

@@ -3,6 +3,7 @@ use crate::given::{F, sized};
 use crate::lines;
 use crate::refused::{BYTE, bytes_kept};
 use show::{CANARY, kept, same};
+use std::io;
 
 fn own() -> [u64; 10] {
     tally::tally(sized(1, 1), &F).tally
@@ -10,30 +11,30 @@ fn own() -> [u64; 10] {
 
 // ---- what is written, and read back
 
-fn written() {
+fn written(rt: &impl Print) -> io::Result<()> {
     let t = own();
     let mut file = [0; 85];
     let number = tally::write_tally(&t, &mut file);
-    show::gives(b"write_tally", b"1 by 1", number);
-    show::newline();
-    lines::bytes(&file);
+    show::gives(rt, b"write_tally", b"1 by 1", number)?;
+    show::newline(rt)?;
+    lines::bytes(rt, &file)?;
     let mut u = [CANARY; 10];
     let number = tally::read_tally(&file, &mut u);
-    show::gives(b"read_tally", b"what was written", number);
-    show::holds(same(&u, &t), b", every bit");
-    show::newline();
+    show::gives(rt, b"read_tally", b"what was written", number)?;
+    show::holds(rt, same(&u, &t), b", every bit")?;
+    show::newline(rt)
 }
 
 // The entry of direction 8 becomes 1.
-fn moved() {
+fn moved(rt: &impl Print) -> io::Result<()> {
     let mut f = F;
     let mut t = own();
     let number = tally::write_entry(sized(1, 1), 0, 0, 8, 1, &mut f, &mut t);
-    show::gives(b"write_entry", b"1 by 1", number);
-    show::newline();
+    show::gives(rt, b"write_entry", b"1 by 1", number)?;
+    show::newline(rt)?;
     let mut file = [0; 85];
     tally::write_tally(&t, &mut file);
-    lines::bytes(&file);
+    lines::bytes(rt, &file)
 }
 
 // ---- reading: the file of 85 bytes, and one more behind it, with byte k turned to another, and cut to a length
@@ -47,67 +48,68 @@ fn changed(k: usize, byte: u8) -> [u8; 86] {
     file
 }
 
-fn read(k: usize, byte: u8, length: usize, t: &mut [u64]) {
+fn read(rt: &impl Print, k: usize, byte: u8, length: usize, t: &mut [u64]) -> io::Result<()> {
     let file = changed(k, byte);
     if length <= 86 {
         let number = tally::read_tally(&file[0..length], t);
-        lines::changed(b"read_tally", k, byte, length, number);
-        show::value(b", ", t.len() as u64);
-        show::holds(kept(t), b" left");
-        show::newline();
+        lines::changed(rt, b"read_tally", k, byte, length, number)?;
+        show::value(rt, b", ", t.len() as u64)?;
+        show::holds(rt, kept(t), b" left")?;
+        show::newline(rt)?;
     }
+    Ok(())
 }
 
-fn read_ten(k: usize, byte: u8, length: usize) {
-    read(k, byte, length, &mut [CANARY; 10]);
+fn read_ten(rt: &impl Print, k: usize, byte: u8, length: usize) -> io::Result<()> {
+    read(rt, k, byte, length, &mut [CANARY; 10])
 }
 
 // 12, 13 and 15; the version is told before the length.
-fn heads() {
-    read_ten(4, 1, 4);
-    read_ten(4, 1, 5);
-    read_ten(4, 1, 84);
-    read_ten(4, 1, 86);
-    read_ten(4, 2, 85);
-    read_ten(4, 0, 5);
-    read_ten(3, 80, 85);
-    read_ten(0, 1, 85);
+fn heads(rt: &impl Print) -> io::Result<()> {
+    read_ten(rt, 4, 1, 4)?;
+    read_ten(rt, 4, 1, 5)?;
+    read_ten(rt, 4, 1, 84)?;
+    read_ten(rt, 4, 1, 86)?;
+    read_ten(rt, 4, 2, 85)?;
+    read_ten(rt, 4, 0, 5)?;
+    read_ten(rt, 3, 80, 85)?;
+    read_ten(rt, 0, 1, 85)
 }
 
 // 17, of the first number and of the last; and 2, which is told last.
-fn sums() {
+fn sums(rt: &impl Print) -> io::Result<()> {
     let mut short = [CANARY; 9];
     let mut long = [CANARY; 11];
-    read_ten(5, 255, 85);
-    read_ten(84, 254, 85);
-    read(84, 254, 85, &mut short);
-    read(4, 1, 85, &mut short);
-    read(4, 1, 85, &mut long);
+    read_ten(rt, 5, 255, 85)?;
+    read_ten(rt, 84, 254, 85)?;
+    read(rt, 84, 254, 85, &mut short)?;
+    read(rt, 4, 1, 85, &mut short)?;
+    read(rt, 4, 1, 85, &mut long)
 }
 
 // ---- writing
 
-fn write(case: &[u8], t: &[u64; 10], file: &mut [u8]) {
+fn write(rt: &impl Print, case: &[u8], t: &[u64; 10], file: &mut [u8]) -> io::Result<()> {
     let number = tally::write_tally(t, file);
-    show::gives(b"write_tally", case, number);
-    show::holds(bytes_kept(file), b", left");
-    show::newline();
+    show::gives(rt, b"write_tally", case, number)?;
+    show::holds(rt, bytes_kept(file), b", left")?;
+    show::newline(rt)
 }
 
-fn writing() {
+fn writing(rt: &impl Print) -> io::Result<()> {
     let mut file = [BYTE; 85];
     let mut short = [BYTE; 84];
     let mut long = [BYTE; 86];
-    write(b"ten canaries", &[CANARY; 10], &mut file);
-    write(b"ten canaries, file 84", &[CANARY; 10], &mut short);
-    write(b"file 84", &own(), &mut short);
-    write(b"file 86", &own(), &mut long);
+    write(rt, b"ten canaries", &[CANARY; 10], &mut file)?;
+    write(rt, b"ten canaries, file 84", &[CANARY; 10], &mut short)?;
+    write(rt, b"file 84", &own(), &mut short)?;
+    write(rt, b"file 86", &own(), &mut long)
 }
 
-pub fn all() {
-    written();
-    moved();
-    heads();
-    sums();
-    writing();
+pub fn all(rt: &impl Print) -> io::Result<()> {
+    written(rt)?;
+    moved(rt)?;
+    heads(rt)?;
+    sums(rt)?;
+    writing(rt)
 }

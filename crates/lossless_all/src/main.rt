@@ -2,9 +2,9 @@
 #![tactic(auto)]
 
 use cell::Collision;
-use libc::STDOUT_FILENO;
 use lossless::Answer;
 use settings::{Face, Settings};
+use std::io;
 
 fn face(k: u64) -> Face {
     if k == 0 {
@@ -144,60 +144,63 @@ fn wrong_on(nx: usize, ny: usize, post: &mut [u64], f: &mut [u64], seen: &mut [u
     wrong
 }
 
-fn show(nx: usize, ny: usize, post: &mut [u64], f: &mut [u64], seen: &mut [u64]) {
-    io::print_decimal(STDOUT_FILENO, nx as u64);
-    io::write_all(STDOUT_FILENO, b" by ");
-    io::print_decimal(STDOUT_FILENO, ny as u64);
-    io::write_all(STDOUT_FILENO, b": ");
-    io::print_decimal(STDOUT_FILENO, wrong_on(nx, ny, post, f, seen));
-    io::write_all(STDOUT_FILENO, b" of 81 wrong\n");
+fn show(
+    rt: &impl Print,
+    nx: usize,
+    ny: usize,
+    post: &mut [u64],
+    f: &mut [u64],
+    seen: &mut [u64],
+) -> io::Result<()> {
+    let wrong = wrong_on(nx, ny, post, f, seen);
+    println!(rt; "{nx} by {ny}: {wrong} of 81 wrong")
 }
 
 // The grids of each width, with buffers of nine entries a cell.
-fn of_width_one() {
-    show(1, 1, &mut [0; 9], &mut [0; 9], &mut [0; 9]);
-    show(1, 2, &mut [0; 18], &mut [0; 18], &mut [0; 18]);
-    show(1, 3, &mut [0; 27], &mut [0; 27], &mut [0; 27]);
-    show(1, 4, &mut [0; 36], &mut [0; 36], &mut [0; 36]);
-    show(1, 5, &mut [0; 45], &mut [0; 45], &mut [0; 45]);
+fn of_width_one(rt: &impl Print) -> io::Result<()> {
+    show(rt, 1, 1, &mut [0; 9], &mut [0; 9], &mut [0; 9])?;
+    show(rt, 1, 2, &mut [0; 18], &mut [0; 18], &mut [0; 18])?;
+    show(rt, 1, 3, &mut [0; 27], &mut [0; 27], &mut [0; 27])?;
+    show(rt, 1, 4, &mut [0; 36], &mut [0; 36], &mut [0; 36])?;
+    show(rt, 1, 5, &mut [0; 45], &mut [0; 45], &mut [0; 45])
 }
 
-fn of_width_two() {
-    show(2, 1, &mut [0; 18], &mut [0; 18], &mut [0; 18]);
-    show(2, 2, &mut [0; 36], &mut [0; 36], &mut [0; 36]);
-    show(2, 3, &mut [0; 54], &mut [0; 54], &mut [0; 54]);
-    show(2, 4, &mut [0; 72], &mut [0; 72], &mut [0; 72]);
-    show(2, 5, &mut [0; 90], &mut [0; 90], &mut [0; 90]);
+fn of_width_two(rt: &impl Print) -> io::Result<()> {
+    show(rt, 2, 1, &mut [0; 18], &mut [0; 18], &mut [0; 18])?;
+    show(rt, 2, 2, &mut [0; 36], &mut [0; 36], &mut [0; 36])?;
+    show(rt, 2, 3, &mut [0; 54], &mut [0; 54], &mut [0; 54])?;
+    show(rt, 2, 4, &mut [0; 72], &mut [0; 72], &mut [0; 72])?;
+    show(rt, 2, 5, &mut [0; 90], &mut [0; 90], &mut [0; 90])
 }
 
-fn of_width_three() {
-    show(3, 1, &mut [0; 27], &mut [0; 27], &mut [0; 27]);
-    show(3, 2, &mut [0; 54], &mut [0; 54], &mut [0; 54]);
-    show(3, 3, &mut [0; 81], &mut [0; 81], &mut [0; 81]);
-    show(3, 4, &mut [0; 108], &mut [0; 108], &mut [0; 108]);
-    show(3, 5, &mut [0; 135], &mut [0; 135], &mut [0; 135]);
+fn of_width_three(rt: &impl Print) -> io::Result<()> {
+    show(rt, 3, 1, &mut [0; 27], &mut [0; 27], &mut [0; 27])?;
+    show(rt, 3, 2, &mut [0; 54], &mut [0; 54], &mut [0; 54])?;
+    show(rt, 3, 3, &mut [0; 81], &mut [0; 81], &mut [0; 81])?;
+    show(rt, 3, 4, &mut [0; 108], &mut [0; 108], &mut [0; 108])?;
+    show(rt, 3, 5, &mut [0; 135], &mut [0; 135], &mut [0; 135])
 }
 
-fn of_width_four() {
-    show(4, 1, &mut [0; 36], &mut [0; 36], &mut [0; 36]);
-    show(4, 2, &mut [0; 72], &mut [0; 72], &mut [0; 72]);
-    show(4, 3, &mut [0; 108], &mut [0; 108], &mut [0; 108]);
-    show(4, 4, &mut [0; 144], &mut [0; 144], &mut [0; 144]);
-    show(4, 5, &mut [0; 180], &mut [0; 180], &mut [0; 180]);
+fn of_width_four(rt: &impl Print) -> io::Result<()> {
+    show(rt, 4, 1, &mut [0; 36], &mut [0; 36], &mut [0; 36])?;
+    show(rt, 4, 2, &mut [0; 72], &mut [0; 72], &mut [0; 72])?;
+    show(rt, 4, 3, &mut [0; 108], &mut [0; 108], &mut [0; 108])?;
+    show(rt, 4, 4, &mut [0; 144], &mut [0; 144], &mut [0; 144])?;
+    show(rt, 4, 5, &mut [0; 180], &mut [0; 180], &mut [0; 180])
 }
 
-fn of_width_five() {
-    show(5, 1, &mut [0; 45], &mut [0; 45], &mut [0; 45]);
-    show(5, 2, &mut [0; 90], &mut [0; 90], &mut [0; 90]);
-    show(5, 3, &mut [0; 135], &mut [0; 135], &mut [0; 135]);
-    show(5, 4, &mut [0; 180], &mut [0; 180], &mut [0; 180]);
-    show(5, 5, &mut [0; 225], &mut [0; 225], &mut [0; 225]);
+fn of_width_five(rt: &impl Print) -> io::Result<()> {
+    show(rt, 5, 1, &mut [0; 45], &mut [0; 45], &mut [0; 45])?;
+    show(rt, 5, 2, &mut [0; 90], &mut [0; 90], &mut [0; 90])?;
+    show(rt, 5, 3, &mut [0; 135], &mut [0; 135], &mut [0; 135])?;
+    show(rt, 5, 4, &mut [0; 180], &mut [0; 180], &mut [0; 180])?;
+    show(rt, 5, 5, &mut [0; 225], &mut [0; 225], &mut [0; 225])
 }
 
-fn main() {
-    of_width_one();
-    of_width_two();
-    of_width_three();
-    of_width_four();
-    of_width_five();
+fn main(rt: HostRuntime) -> io::Result<()> {
+    of_width_one(&rt)?;
+    of_width_two(&rt)?;
+    of_width_three(&rt)?;
+    of_width_four(&rt)?;
+    of_width_five(&rt)
 }

@@ -1,20 +1,23 @@
 // Reads one line from standard input and writes what it asks: `lossless`, `lossy X Y I`, `refused 1` or `unreadable`.
 #![tactic(auto)]
 
-ghost use Rattle.io.specs.Counts.{IsPrefixLen};
+ghost use Rattle.std.specs.Prelude.{◌≡◌, ◌≤◌, length, take};
+
+use std::io;
+use std::io::Read;
 
 // One byte more than the longest readable line: an input that fills it without a newline is too long, whatever follows.
 const ENOUGH: usize = line::MOST_BYTES + 1;
 
 // Reads until the input ends, a newline was read or `bytes` is full, and answers how many bytes were read. It reads byte by byte, so
 // that it does not wait for what stands after the newline. A read that fails counts as the end of the input.
-fn read(bytes: &mut [u8]) -> usize
-    ensures { IsPrefixLen result bytes.new }
+fn read(input: &mut impl Read, bytes: &mut [u8]) -> usize
+    ensures { (result ≤ length bytes.new) × (result ≡ length (take result bytes.new)) }
 {
     let mut one = [0u8; 1];
     let mut n = 0;
     while n < bytes.len() {
-        if libc::read(0, &mut one) < 1 {
+        if input.read(&mut one).unwrap_or(0) < 1 {
             return n;
         }
         bytes[n] = one[0];
@@ -26,11 +29,11 @@ fn read(bytes: &mut [u8]) -> usize
     n
 }
 
-fn main() {
+fn main(rt: HostRuntime) -> io::Result<()> {
     let mut bytes = [0u8; ENOUGH];
-    let n = read(&mut bytes);
+    let n = read(&mut rt.stdin(), &mut bytes);
     let answer = line::reply(&bytes[..n]);
     let text = answer.bytes;
     let count = answer.count;
-    io::write_all(1, &text[..count]);
+    rt.write_all(&text[..count])
 }

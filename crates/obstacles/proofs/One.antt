@@ -1,5 +1,5 @@
 -- Any two outcomes that the contract of the operation allows on the same input coincide: the number, and the lent populations.
--- The checker reads no clauses out of a function that is proved by hand, so `Post` is written here, and `post_is` holds it to them.
+-- `Post` is what the operation ensures, written out, and `post_is` holds it to the clauses.
 use mathlib.Core.Path.{◌≡◌, refl, sym, ◌∙◌}
 use seplogic.Ra.Ura.{Ura}
 use base.Logic.{SProp}

@@ -123,7 +123,7 @@ fn visit(nx: usize, ny: usize, n: usize, j: usize, o: Obstacle, seen: Seen, f: &
 }
 
 // Swaps the populations of each cell that the list names with their opposites. The whole list is tested before anything is
-// written. This thin function alone reads the list: a `&[Obstacle]` is proved by hand, so it leaves the rest to `visit`.
+// written. This thin function alone reads the list, and leaves the rest to `visit`.
 pub fn set_no_slip_bc(s: Settings, list: &[Obstacle], f: &mut [u64]) -> u32
     ensures { outcome result f.new ≡ no_slip_set s list.now f.old }
 {

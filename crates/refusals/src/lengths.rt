@@ -2,6 +2,7 @@
 use crate::calls;
 use crate::given::sized;
 use show::CANARY;
+use std::io;
 
 const F: [u64; 54] = [CANARY; 54];
 
@@ -9,59 +10,59 @@ const SHORT: [u64; 53] = [CANARY; 53];
 
 const LONG: [u64; 55] = [CANARY; 55];
 
-fn readings() {
+fn readings(rt: &impl Print) -> io::Result<()> {
     let s = sized(3, 2);
     let mut f = F;
-    calls::initialize(b"table 17", s, &[CANARY; 17], &mut f);
+    calls::initialize(rt, b"table 17", s, &[CANARY; 17], &mut f)?;
     let mut f = SHORT;
-    calls::initialize(b"populations 53", s, &[CANARY; 18], &mut f);
-    calls::density(b"populations 55", s, &LONG, 0, 0);
-    calls::velocity(b"populations 53", s, &SHORT, 0, 0);
+    calls::initialize(rt, b"populations 53", s, &[CANARY; 18], &mut f)?;
+    calls::density(rt, b"populations 55", s, &LONG, 0, 0)?;
+    calls::velocity(rt, b"populations 53", s, &SHORT, 0, 0)
 }
 
-fn fields() {
+fn fields(rt: &impl Print) -> io::Result<()> {
     let s = sized(3, 2);
     let mut u = [CANARY; 12];
-    calls::velocity_field(b"populations 53", s, &SHORT, &mut u);
+    calls::velocity_field(rt, b"populations 53", s, &SHORT, &mut u)?;
     let mut u = [CANARY; 11];
-    calls::velocity_field(b"velocities 11", s, &F, &mut u);
-    calls::total_mass(b"populations 53", s, &SHORT);
-    calls::kinetic_energy(b"populations 55", s, &LONG);
-    calls::plane(b"populations 53", s, &SHORT, 0);
+    calls::velocity_field(rt, b"velocities 11", s, &F, &mut u)?;
+    calls::total_mass(rt, b"populations 53", s, &SHORT)?;
+    calls::kinetic_energy(rt, b"populations 55", s, &LONG)?;
+    calls::plane(rt, b"populations 53", s, &SHORT, 0)
 }
 
-fn tallying() {
+fn tallying(rt: &impl Print) -> io::Result<()> {
     let s = sized(3, 2);
     let mut short = SHORT;
     let mut long = LONG;
-    calls::tally(b"populations 53", s, &SHORT);
-    calls::tally(b"populations 55", s, &LONG);
-    calls::write_entry(b"populations 53", s, 0, 0, 0, &mut short);
-    calls::write_entry(b"populations 55", s, 0, 0, 0, &mut long);
+    calls::tally(rt, b"populations 53", s, &SHORT)?;
+    calls::tally(rt, b"populations 55", s, &LONG)?;
+    calls::write_entry(rt, b"populations 53", s, 0, 0, 0, &mut short)?;
+    calls::write_entry(rt, b"populations 55", s, 0, 0, 0, &mut long)
 }
 
-fn carrying() {
+fn carrying(rt: &impl Print) -> io::Result<()> {
     let s = sized(3, 2);
     let mut right = F;
     let mut long = LONG;
-    calls::stream_with_faces(b"populations 55", s, &F, &mut long);
-    calls::stream_with_faces(b"post 53", s, &SHORT, &mut right);
-    calls::reverse(b"populations 53", s, &SHORT, &mut right);
-    calls::reverse(b"post 55", s, &F, &mut long);
+    calls::stream_with_faces(rt, b"populations 55", s, &F, &mut long)?;
+    calls::stream_with_faces(rt, b"post 53", s, &SHORT, &mut right)?;
+    calls::reverse(rt, b"populations 53", s, &SHORT, &mut right)?;
+    calls::reverse(rt, b"post 55", s, &F, &mut long)
 }
 
-fn stepping() {
+fn stepping(rt: &impl Print) -> io::Result<()> {
     let s = sized(3, 2);
     let mut right = F;
     let mut short = SHORT;
     let mut long = LONG;
-    calls::step(b"populations 53", s, &mut short, &mut right);
-    calls::step(b"post 55", s, &mut right, &mut long);
-    calls::run(b"populations 55", s, 1, &mut long, &mut right);
-    calls::run(b"post 53", s, 1, &mut right, &mut short);
+    calls::step(rt, b"populations 53", s, &mut short, &mut right)?;
+    calls::step(rt, b"post 55", s, &mut right, &mut long)?;
+    calls::run(rt, b"populations 55", s, 1, &mut long, &mut right)?;
+    calls::run(rt, b"post 53", s, 1, &mut right, &mut short)
 }
 
-fn settling() {
+fn settling(rt: &impl Print) -> io::Result<()> {
     let s = sized(3, 2);
     let mut f = F;
     let mut post = F;
@@ -69,16 +70,34 @@ fn settling() {
     let mut short = SHORT;
     let mut long = LONG;
     let mut u_long = [CANARY; 13];
-    calls::steady(b"populations 53", s, 0.0, 1, &mut short, &mut post, &mut u);
-    calls::steady(b"post 55", s, 0.0, 1, &mut f, &mut long, &mut u);
-    calls::steady(b"velocities 13", s, 0.0, 1, &mut f, &mut post, &mut u_long);
+    calls::steady(
+        rt,
+        b"populations 53",
+        s,
+        0.0,
+        1,
+        &mut short,
+        &mut post,
+        &mut u,
+    )?;
+    calls::steady(rt, b"post 55", s, 0.0, 1, &mut f, &mut long, &mut u)?;
+    calls::steady(
+        rt,
+        b"velocities 13",
+        s,
+        0.0,
+        1,
+        &mut f,
+        &mut post,
+        &mut u_long,
+    )
 }
 
-pub fn all() {
-    readings();
-    fields();
-    tallying();
-    carrying();
-    stepping();
-    settling();
+pub fn all(rt: &impl Print) -> io::Result<()> {
+    readings(rt)?;
+    fields(rt)?;
+    tallying(rt)?;
+    carrying(rt)?;
+    stepping(rt)?;
+    settling(rt)
 }

@@ -8,9 +8,11 @@ mod lengths;
 mod refused;
 mod ruined;
 
-fn main() {
-    refused::all();
-    lengths::all();
-    ruined::all();
-    asked::all();
+use std::io;
+
+fn main(rt: HostRuntime) -> io::Result<()> {
+    refused::all(&rt)?;
+    lengths::all(&rt)?;
+    ruined::all(&rt)?;
+    asked::all(&rt)
 }

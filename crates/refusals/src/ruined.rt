@@ -3,6 +3,7 @@ use crate::calls::steady_number;
 use crate::given::sized;
 use runs::Steady;
 use show::{CANARY, kept, same};
+use std::io;
 
 const MINUS_INFINITY: u64 = 0xfff0_0000_0000_0000;
 
@@ -20,25 +21,32 @@ fn steps_taken(a: Steady) -> u64 {
     }
 }
 
-fn gives(case: &[u8], a: Steady) {
-    show::gives(b"run_to_steady_state", case, steady_number(a));
-    show::value(b", steps ", steps_taken(a));
+fn gives(rt: &impl Print, case: &[u8], a: Steady) -> io::Result<()> {
+    show::gives(rt, b"run_to_steady_state", case, steady_number(a))?;
+    show::value(rt, b", steps ", steps_taken(a))
 }
 
 // One cell whose first snapshot is bad: all is left as it was.
-fn at_once(case: &[u8], f: [u64; 9]) {
+fn at_once(rt: &impl Print, case: &[u8], f: [u64; 9]) -> io::Result<()> {
     let mut now = f;
     let mut post = [CANARY; 9];
     let mut u = [CANARY; 2];
     let a = runs::run_to_steady_state(sized(1, 1), 1e-9, 5, 1, &mut now, &mut post, &mut u);
-    gives(case, a);
-    show::holds(same(&now, &f) & kept(&post) & kept(&u), b", left");
-    show::newline();
+    gives(rt, case, a)?;
+    show::holds(rt, same(&now, &f) & kept(&post) & kept(&u), b", left")?;
+    show::newline(rt)
 }
 
 // Two cells, the second at rest. After a step directions 1 and 3 of the first are there, and its density overflows, while every
 // velocity is finite. In the first snapshot the first cell has (ux, 0).
-fn later(case: &[u8], right: u64, left: u64, resting: u64, ux: u64) {
+fn later(
+    rt: &impl Print,
+    case: &[u8],
+    right: u64,
+    left: u64,
+    resting: u64,
+    ux: u64,
+) -> io::Result<()> {
     let mut s = sized(2, 1);
     s.nu = 100.0;
     let mut f = [0; 18];
@@ -51,31 +59,34 @@ fn later(case: &[u8], right: u64, left: u64, resting: u64, ux: u64) {
     let mut u = [CANARY; 4];
     let a = runs::run_to_steady_state(s, 1e-9, 5, 1, &mut f, &mut post, &mut u);
     runs::step(s, &mut g, &mut collided);
-    gives(case, a);
-    show::holds(same(&f, &g) & same(&post, &collided), b", stepped once");
-    show::holds(same(&u, &[ux, 0, 0, 0]), b", first snapshot kept");
-    show::newline();
+    gives(rt, case, a)?;
+    show::holds(rt, same(&f, &g) & same(&post, &collided), b", stepped once")?;
+    show::holds(rt, same(&u, &[ux, 0, 0, 0]), b", first snapshot kept")?;
+    show::newline(rt)
 }
 
-pub fn all() {
-    at_once(b"populations NaN", [CANARY; 9]);
+pub fn all(rt: &impl Print) -> io::Result<()> {
+    at_once(rt, b"populations NaN", [CANARY; 9])?;
     at_once(
+        rt,
         b"population 0 minus infinity",
         [MINUS_INFINITY, 0, 0, 0, 0, 0, 0, 0, 0],
-    );
-    at_once(b"density overflows", [0, HUGE, 0, HUGE, 0, 0, 0, 0, 0]);
+    )?;
+    at_once(rt, b"density overflows", [0, HUGE, 0, HUGE, 0, 0, 0, 0, 0])?;
     later(
+        rt,
         b"density overflows to minus infinity after a step",
         0xffd0_0000_0000_0000,
         0xffd0_0000_0000_0000,
         0xffe8_0000_0000_0000,
         0,
-    );
+    )?;
     later(
+        rt,
         b"density overflows after a step",
         0x7fd0_0000_0000_0000,
         0x7fc0_0000_0000_0000,
         0x7fe8_0000_0000_0000,
         A_THIRD,
-    );
+    )
 }

@@ -2,7 +2,7 @@
 // what it leaves is as it must be.
 #![tactic(auto)]
 
-use libc::STDOUT_FILENO;
+use std::io;
 
 // A NaN with a payload, so that a copy of it is told from any number.
 pub const CANARY: u64 = 0x7ff8_dead_beef_cafe;
@@ -36,45 +36,56 @@ pub fn zero(v: f64) -> bool {
     number::pattern(v) == 0
 }
 
-pub fn gives(operation: &[u8], case: &[u8], number: u32) {
-    io::write_all(STDOUT_FILENO, operation);
-    io::write_all(STDOUT_FILENO, b": ");
-    io::write_all(STDOUT_FILENO, case);
-    io::write_all(STDOUT_FILENO, b" gives ");
-    io::print_decimal(STDOUT_FILENO, number as u64);
+pub fn gives(rt: &impl Print, operation: &[u8], case: &[u8], number: u32) -> io::Result<()> {
+    rt.write_all(operation)?;
+    rt.write_all(b": ")?;
+    rt.write_all(case)?;
+    print!(rt; " gives {number}")
 }
 
-pub fn value(name: &[u8], v: u64) {
-    io::write_all(STDOUT_FILENO, name);
-    io::print_decimal(STDOUT_FILENO, v);
+pub fn value(rt: &impl Print, name: &[u8], v: u64) -> io::Result<()> {
+    rt.write_all(name)?;
+    print!(rt; "{v}")
 }
 
-pub fn newline() {
-    io::write_all(STDOUT_FILENO, b"\n");
+pub fn newline(rt: &impl Print) -> io::Result<()> {
+    rt.write_all(b"\n")
 }
 
 // The word stands for what must hold.
-pub fn holds(it: bool, word: &[u8]) {
+pub fn holds(rt: &impl Print, it: bool, word: &[u8]) -> io::Result<()> {
     if it {
-        io::write_all(STDOUT_FILENO, word);
+        rt.write_all(word)
     } else {
-        io::write_all(STDOUT_FILENO, b", WRONG");
+        rt.write_all(b", WRONG")
     }
 }
 
-pub fn number(operation: &[u8], case: &[u8], number: u32) {
-    gives(operation, case, number);
-    newline();
+pub fn number(rt: &impl Print, operation: &[u8], case: &[u8], number: u32) -> io::Result<()> {
+    gives(rt, operation, case, number)?;
+    newline(rt)
 }
 
-pub fn left(operation: &[u8], case: &[u8], number: u32, all: bool) {
-    gives(operation, case, number);
-    holds(all, b", left");
-    newline();
+pub fn left(
+    rt: &impl Print,
+    operation: &[u8],
+    case: &[u8],
+    number: u32,
+    all: bool,
+) -> io::Result<()> {
+    gives(rt, operation, case, number)?;
+    holds(rt, all, b", left")?;
+    newline(rt)
 }
 
-pub fn zeros(operation: &[u8], case: &[u8], number: u32, all: bool) {
-    gives(operation, case, number);
-    holds(all, b", zero");
-    newline();
+pub fn zeros(
+    rt: &impl Print,
+    operation: &[u8],
+    case: &[u8],
+    number: u32,
+    all: bool,
+) -> io::Result<()> {
+    gives(rt, operation, case, number)?;
+    holds(rt, all, b", zero")?;
+    newline(rt)
 }

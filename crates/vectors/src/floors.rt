@@ -1,6 +1,7 @@
 // One cell about its floor: what is read of it, and what it is after collision.
 use crate::{show, studies};
 use settings::Settings;
+use std::io;
 
 // The numbers before the floors 5e-324, 1e-300, 1e-20, 0.5, 1.0 and 1e300.
 const BEFORE: [u64; 6] = [
@@ -13,16 +14,16 @@ const BEFORE: [u64; 6] = [
 ];
 
 // The velocity, then the nine post-collision entries.
-fn show_cell(s: Settings, f: &mut [u64], post: &mut [u64]) {
+fn show_cell(rt: &impl Print, s: Settings, f: &mut [u64], post: &mut [u64]) -> io::Result<()> {
     let u = readings::velocity(s, f, 0, 0);
-    show::words(&[number::pattern(u.ux), number::pattern(u.uy)]);
+    show::words(rt, &[number::pattern(u.ux), number::pattern(u.uy)])?;
     runs::step(s, f, post);
-    show::words(post);
+    show::words(rt, post)
 }
 
 // Case k of 108. All of the density moves in one direction: it is the number before the floor, the floor, or the number after it, of
 // either sign.
-fn one(k: u64) {
+fn one(rt: &impl Print, k: u64) -> io::Result<()> {
     let before = BEFORE[(k / 6 % 6) as usize];
     let beside = std::num::wrapping_add_u64(before, k % 3);
     let sign = k / 3 % 2 * 0x8000_0000_0000_0000;
@@ -32,12 +33,13 @@ fn one(k: u64) {
     s.floor = number::value(std::num::wrapping_add_u64(before, 1));
     let mut f = [0; 9];
     f[(1 + k % 8) as usize] = sign | beside;
-    show_cell(s, &mut f, &mut [0; 9]);
+    show_cell(rt, s, &mut f, &mut [0; 9])
 }
 
 // Each kind of collision at each floor.
-pub fn all() {
+pub fn all(rt: &impl Print) -> io::Result<()> {
     for k in 0..108 {
-        one(k);
+        one(rt, k)?;
     }
+    Ok(())
 }

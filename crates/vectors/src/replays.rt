@@ -1,6 +1,7 @@
 // Runs of the studies of a grid: a single step, or as many steps as are drawn.
 use crate::{made, show, studies};
 use settings::Settings;
+use std::io;
 
 const STEPS: [u64; 4] = [0, 1, 2, 7];
 
@@ -14,18 +15,33 @@ fn go(s: Settings, choice: u64, f: &mut [u64], post: &mut [u64]) -> u32 {
 }
 
 // Study q, from the number x on; answers the number after it.
-fn one(nx: usize, ny: usize, q: u64, x: u64, f: &mut [u64], post: &mut [u64]) -> u64 {
+fn one(
+    rt: &impl Print,
+    nx: usize,
+    ny: usize,
+    q: u64,
+    x: u64,
+    f: &mut [u64],
+    post: &mut [u64],
+) -> io::Result<u64> {
     let s = studies::drawn(nx, ny, q, x);
     let c = made::shifted(studies::fill(x, f, post));
     let number = go(s, c % 5, f, post);
-    show::words(&[number as u64, show::mixed(f), show::mixed(post)]);
-    c
+    show::words(rt, &[number as u64, show::mixed(f), show::mixed(post)])?;
+    Ok(c)
 }
 
-pub fn all(nx: usize, ny: usize, x: u64, f: &mut [u64], post: &mut [u64]) -> u64 {
+pub fn all(
+    rt: &impl Print,
+    nx: usize,
+    ny: usize,
+    x: u64,
+    f: &mut [u64],
+    post: &mut [u64],
+) -> io::Result<u64> {
     let mut x = x;
     for q in 0..108 {
-        x = one(nx, ny, q, x, f, post);
+        x = one(rt, nx, ny, q, x, f, post)?;
     }
-    x
+    Ok(x)
 }

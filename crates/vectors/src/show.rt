@@ -1,39 +1,39 @@
 // Writes patterns in hexadecimal, a space between two and a newline at the end of a line.
-use libc::STDOUT_FILENO;
+use std::io;
 
-pub fn word(b: u64) {
-    io::print_hex(STDOUT_FILENO, b, 16);
+pub fn word(rt: &impl Print, b: u64) -> io::Result<()> {
+    print!(rt; "{b:016x}")
 }
 
-pub fn space() {
-    io::write_all(STDOUT_FILENO, b" ");
+pub fn space(rt: &impl Print) -> io::Result<()> {
+    rt.write_all(b" ")
 }
 
-pub fn newline() {
-    io::write_all(STDOUT_FILENO, b"\n");
+pub fn newline(rt: &impl Print) -> io::Result<()> {
+    rt.write_all(b"\n")
 }
 
 // The patterns of nine numbers, as a line.
-pub fn nine(f: [f64; 9]) {
-    word(number::pattern(f[0]));
+pub fn nine(rt: &impl Print, f: [f64; 9]) -> io::Result<()> {
+    word(rt, number::pattern(f[0]))?;
     for i in 1..9 {
-        space();
-        word(number::pattern(f[i]));
+        space(rt)?;
+        word(rt, number::pattern(f[i]))?;
     }
-    newline();
+    newline(rt)
 }
 
 // Patterns, as a line.
-pub fn words(a: &[u64]) {
+pub fn words(rt: &impl Print, a: &[u64]) -> io::Result<()> {
     let mut k = 0;
     while k < a.len() {
         if 0 < k {
-            space();
+            space(rt)?;
         }
-        word(a[k]);
+        word(rt, a[k])?;
         k += 1;
     }
-    newline();
+    newline(rt)
 }
 
 // One number for a long list of patterns.

@@ -2,6 +2,7 @@
 use crate::{made, show, studies};
 use cell::Collision;
 use runs::Steady;
+use std::io;
 
 // Infinity, -1.0, 0.0, 0.1, 0.01 and 0.001.
 const TOLERANCES: [u64; 6] = [
@@ -60,21 +61,31 @@ fn values_of(answer: Steady) -> Values {
 }
 
 // The answer, and what the three buffers then hold.
-fn show_answer(answer: Steady, f: &[u64], post: &[u64], u: &[u64]) {
+fn show_answer(
+    rt: &impl Print,
+    answer: Steady,
+    f: &[u64],
+    post: &[u64],
+    u: &[u64],
+) -> io::Result<()> {
     let v = values_of(answer);
-    show::words(&[
-        v.number as u64,
-        v.settled,
-        v.steps,
-        number::pattern(v.residual),
-        show::mixed(f),
-        show::mixed(post),
-        show::mixed(u),
-    ]);
+    show::words(
+        rt,
+        &[
+            v.number as u64,
+            v.settled,
+            v.steps,
+            number::pattern(v.residual),
+            show::mixed(f),
+            show::mixed(post),
+            show::mixed(u),
+        ],
+    )
 }
 
 // Study q, from the number x on; answers the number after it.
 fn one(
+    rt: &impl Print,
     nx: usize,
     ny: usize,
     q: u64,
@@ -82,7 +93,7 @@ fn one(
     f: &mut [u64],
     post: &mut [u64],
     u: &mut [u64],
-) -> u64 {
+) -> io::Result<u64> {
     let s = studies::drawn(nx, ny, q, x);
     let c = made::shifted(studies::fill(x, f, post));
     let next = made::fill(u, 1, c);
@@ -90,44 +101,58 @@ fn one(
     let most = (c >> 8) % 8 * 20;
     let every = EVERY[((c >> 16) % 4) as usize];
     let answer = runs::run_to_steady_state(s, tolerance, most, every, f, post, u);
-    show_answer(answer, f, post, u);
-    next
+    show_answer(rt, answer, f, post, u)?;
+    Ok(next)
 }
 
-pub fn all(nx: usize, ny: usize, x: u64, f: &mut [u64], post: &mut [u64], u: &mut [u64]) -> u64 {
+pub fn all(
+    rt: &impl Print,
+    nx: usize,
+    ny: usize,
+    x: u64,
+    f: &mut [u64],
+    post: &mut [u64],
+    u: &mut [u64],
+) -> io::Result<u64> {
     let mut x = x;
     for q in 0..108 {
-        x = one(nx, ny, q, x, f, post, u);
+        x = one(rt, nx, ny, q, x, f, post, u)?;
     }
-    x
+    Ok(x)
 }
 
 // A steady run that the Rust calls settled after one step, on cells in a row.
-fn ruined(nx: usize, f: &mut [u64], post: &mut [u64], u: &mut [u64]) {
+fn ruined(
+    rt: &impl Print,
+    nx: usize,
+    f: &mut [u64],
+    post: &mut [u64],
+    u: &mut [u64],
+) -> io::Result<()> {
     let s = studies::periodic(nx, 1, 100.0, 0.0, 0.0, Collision::Bgk);
     let answer = runs::run_to_steady_state(s, 1e-9, 10, 1, f, post, u);
-    show_answer(answer, f, post, u);
+    show_answer(rt, answer, f, post, u)
 }
 
 // One cell whose first snapshot is bad.
-fn at_once(f: &mut [u64]) {
-    ruined(1, f, &mut [0; 9], &mut [HALF; 2]);
+fn at_once(rt: &impl Print, f: &mut [u64]) -> io::Result<()> {
+    ruined(rt, 1, f, &mut [0; 9], &mut [HALF; 2])
 }
 
 // Two cells at rest. After a step directions 1 and 3 of the first are at the second, whose density then overflows.
-fn later(moving: u64, resting: u64) {
+fn later(rt: &impl Print, moving: u64, resting: u64) -> io::Result<()> {
     let mut f = [0; 18];
     f[2] = moving;
     f[6] = moving;
     f[1] = resting;
-    ruined(2, &mut f, &mut [0; 18], &mut [HALF; 4]);
+    ruined(rt, 2, &mut f, &mut [0; 18], &mut [HALF; 4])
 }
 
 // The recorded differences from the Rust: a NaN, a density of minus infinity, and densities that overflow.
-pub fn all_ruined() {
-    at_once(&mut [0x7ff8_0000_0000_0000, 0, 0, 0, 0, 0, 0, 0, 0]);
-    at_once(&mut [0xfff0_0000_0000_0000, 0, 0, 0, 0, 0, 0, 0, 0]);
-    at_once(&mut [0, HUGE, 0, HUGE, 0, 0, 0, 0, 0]);
-    later(0xffd0_0000_0000_0000, 0xffe8_0000_0000_0000);
-    later(0x7fd0_0000_0000_0000, 0x7fe8_0000_0000_0000);
+pub fn all_ruined(rt: &impl Print) -> io::Result<()> {
+    at_once(rt, &mut [0x7ff8_0000_0000_0000, 0, 0, 0, 0, 0, 0, 0, 0])?;
+    at_once(rt, &mut [0xfff0_0000_0000_0000, 0, 0, 0, 0, 0, 0, 0, 0])?;
+    at_once(rt, &mut [0, HUGE, 0, HUGE, 0, 0, 0, 0, 0])?;
+    later(rt, 0xffd0_0000_0000_0000, 0xffe8_0000_0000_0000)?;
+    later(rt, 0x7fd0_0000_0000_0000, 0x7fe8_0000_0000_0000)
 }

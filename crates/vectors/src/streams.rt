@@ -2,6 +2,7 @@
 use crate::{made, show, studies};
 use cell::Collision;
 use settings::Settings;
+use std::io;
 
 fn settings_of(nx: usize, ny: usize, q: u64, x: u64) -> Settings {
     let s = studies::periodic(nx, ny, 0.1, 0.0, 0.0, Collision::Bgk);
@@ -9,18 +10,33 @@ fn settings_of(nx: usize, ny: usize, q: u64, x: u64) -> Settings {
 }
 
 // Case q, from the number x on; answers the number after it.
-fn one(nx: usize, ny: usize, q: u64, x: u64, post: &mut [u64], f: &mut [u64]) -> u64 {
+fn one(
+    rt: &impl Print,
+    nx: usize,
+    ny: usize,
+    q: u64,
+    x: u64,
+    post: &mut [u64],
+    f: &mut [u64],
+) -> io::Result<u64> {
     let s = settings_of(nx, ny, q, x);
     let next = made::fill(post, q % 3, made::past(12, x));
     streaming::stream_with_faces(s, post, f);
-    show::words(&[show::mixed(f)]);
-    next
+    show::words(rt, &[show::mixed(f)])?;
+    Ok(next)
 }
 
-pub fn all(nx: usize, ny: usize, x: u64, post: &mut [u64], f: &mut [u64]) -> u64 {
+pub fn all(
+    rt: &impl Print,
+    nx: usize,
+    ny: usize,
+    x: u64,
+    post: &mut [u64],
+    f: &mut [u64],
+) -> io::Result<u64> {
     let mut x = x;
     for q in 0..108 {
-        x = one(nx, ny, q, x, post, f);
+        x = one(rt, nx, ny, q, x, post, f)?;
     }
-    x
+    Ok(x)
 }
