@@ -80,6 +80,7 @@ def apart_in(commit, path, text, twice, table):
 def main(commit):
     table = {n: snake(n) for n in own_names(commit) if snake(n) != n and not n[0].isupper() and "◌" not in n and "_" not in n}
     table["M-NORM"] = "M_NORM"
+    table |= {n: snake(n) for n in ("neqP", "neqM", "srcP", "srcM")}
     twice = told_apart(commit, table)
     new = {it: old for old, it in table.items()}
     files = [Path(f) for f in subprocess.run(["git", "ls-files", "-co", "--exclude-standard"], capture_output=True, text=True, check=True).stdout.split("\n") if f.endswith(ENDS)]
