@@ -6,7 +6,7 @@ use crate::Moments;
 use crate::equilibrium::along;
 use lattice::{e_x, e_y, weight};
 
-// typeof.e.F for the nine directions.
+// e·F for the nine directions.
 pub fn along_force(fx: f64, fy: f64) -> [f64; 9]
     ensures { result ≡ along_force fx fy }
 {
@@ -23,7 +23,7 @@ pub fn along_force(fx: f64, fy: f64) -> [f64; 9]
     ]
 }
 
-// Guo's source, before its factor. typeof.e.F is passed, since it is the same for every cell of a pass.
+// Guo's source, before its factor. e·F is passed, since it is the same for every cell of a pass.
 fn guo_source(i: usize, m: Moments, fx: f64, fy: f64, ef: [f64; 9]) -> f64
     requires { (i < 9) × (ef ≡ along_force fx fy) }
     ensures { result ≡ guo_at i m fx fy }

@@ -27,17 +27,17 @@ module _ (nx ny len : ℕ) where
 
   -- ---- sides or a length that are bad: every turn finds the same
 
-  module _ (b : ℕ) (All-same : (later : ℕ) → size_number nx ny len later ≡ suc b) where
+  module _ (b : ℕ) (all_same : (later : ℕ) → size_number nx ny len later ≡ suc b) where
     stays-bad : (list : List Obstacle) → whole sees (seen (suc b) 0) list ≡ seen (suc b) 0
     unfolding tested_of place_number
     stays-bad [] = refl
     stays-bad (o ∷ rest) =
-        rw (All-same (cond (place_bad nx ny o.x o.y) 6 (suc b)), ne_eqb (suc b) 0 (λ e. omega (arith, e)))
+        rw (all_same (cond (place_bad nx ny o.x o.y) 6 (suc b)), ne_eqb (suc b) 0 (λ e. omega (arith, e)))
         (stays-bad rest)
 
     bad-number : (list : List Obstacle) → Right list
     unfolding begun_of
-    bad-number list = rw (All-same 0, All-same (list_number list), stays-bad list)
+    bad-number list = rw (all_same 0, all_same (list_number list), stays-bad list)
 
   -- ---- sides and length that are good
 
