@@ -166,6 +166,8 @@ class Function:
 
     def measures(self):
         """Invariants and measures that stand in tie.spec itself become declarations."""
+        if not self.info["loops"]:
+            return
         extra = len(self.args) - len(self.info["needs"])
         for i, a in enumerate(self.args[:extra]):
             m = re.match(r"^\(λ ([^.]*)\.(.*)\)$", a, re.S)
