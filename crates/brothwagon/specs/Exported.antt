@@ -1,20 +1,24 @@
 -- What the exported functions leave with a host: the outcomes of the operations, with every value of an answer as a word.
-use Rattle.std.specs.Prelude.{cond, List, [], ◌∷◌, ℕ, length}
+use Rattle.std.specs.Prelude.{cond, List, [], ◌∷◌, ℕ, length, replicate, Result, Ok, Err}
 use Rattle.number.specs.Number.{pattern_of}
 use Rattle.settings.specs.declared.Settings.{Settings}
 use Rattle.settings.specs.Refusals as Call
 use Rattle.settings.specs.Refusals.{refusal}
-use Rattle.settings.specs.Outcome.{Written}
+use Rattle.settings.specs.Outcome.{Written, outcome}
 use Rattle.lossless.specs.Lossless.{Reply}
-use Rattle.readings.specs.declared.Reading.{Reading}
-use Rattle.readings.specs.declared.VelocityReading.{VelocityReading}
-use Rattle.readings.specs.Readings.{plane_start, plane_length}
+use Rattle.settings.specs.Refused.{number}
+use Rattle.settings.specs.declared.refused.Refusal.{Refusal}
+use Rattle.readings.specs.Readings.{Reading, VelocityReading, plane_start, plane_length}
 use Rattle.runs.specs.Steady.{Values, SteadyRun}
-use Rattle.checkpoint.specs.declared.Stored.{Stored}
-use Rattle.checkpoint.specs.Checkpoint.{Read}
-use Rattle.tally.specs.declared.Tallied.{Tallied}
+use Rattle.checkpoint.specs.Checkpoint.{Told, Read}
+use Rattle.tally.specs.Tally.{Tallied}
 
 -- ---- a number, and a small buffer with the answer, which every call writes
+
+-- of n words: zeros where it is refused
+abbrev pub told : ℕ → Result (List ℕ) Refusal → Written
+told n (Ok words) = outcome 0 words
+told n (Err why) = outcome (number why) (replicate n 0)
 
 abbrev pub reading_told : Reading → Written
 reading_told r = record { number = r.number; buffer = pattern_of r.value ∷ [] }
@@ -32,7 +36,7 @@ plane_told s f i = record {
 abbrev pub lossless_told : Reply → Written
 lossless_told r = record { number = r.number; buffer = r.values }
 
-abbrev pub stored_told : Stored → Written
+abbrev pub stored_told : Told → Written
 stored_told r = record { number = r.number; buffer = r.nx ∷ r.ny ∷ r.step ∷ [] }
 
 abbrev pub tally_told : Tallied → Written

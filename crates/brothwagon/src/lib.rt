@@ -5,21 +5,79 @@
 ghost use Rattle.std.specs.Prelude.{◌≡◌};
 ghost use Rattle.settings.specs.Outcome.{outcome};
 ghost use Rattle.streaming.specs.Streaming.{streamed_with_faces};
-ghost use Rattle.lossless.specs.Lossless.{reply, lossless_of, reversed_of};
-ghost use Rattle.readings.specs.Readings.{initialized, density_read, velocity_read, velocity_field_read, total_mass_read, kinetic_energy_read};
+ghost use Rattle.lossless.specs.Lossless.{reply, answer_of, lossless_of, reversed_of};
+ghost use Rattle.readings.specs.Readings.{initialized, reading_of, velocity_reading_of, density_read, velocity_read, velocity_field_read, total_mass_read, kinetic_energy_read};
 ghost use Rattle.runs.specs.Steps.{left, step_of, run_of};
 ghost use Rattle.runs.specs.Steady.{steady_of};
 ghost use Rattle.obstacles.specs.Obstacles.{no_slip_set};
-ghost use Rattle.checkpoint.specs.Checkpoint.{checkpoint_written, checkpoint_sides, checkpoint_read};
+ghost use Rattle.checkpoint.specs.Checkpoint.{told_by, checkpoint_written, checkpoint_sides, checkpoint_read};
 ghost use Rattle.tally.specs.Tally.{tallied, entered, entry_written};
 ghost use Rattle.tally.specs.File.{tally_written, tally_read};
 ghost use Rattle.host.specs.Host.{settings_of};
-ghost use Rattle.brothwagon.specs.Exported.{reading_told, velocity_told, plane_told, lossless_told, steady_left, steady_told, stored_told, read_left, read_told, tally_told};
+ghost use Rattle.brothwagon.specs.Exported.{told, reading_told, velocity_told, plane_told, lossless_told, steady_left, steady_told, stored_told, read_left, read_told, tally_told};
 
 use checkpoint::Stored;
 use lossless::Answer;
+use readings::Velocity;
 use runs::Steady;
-use settings::Obstacle;
+use settings::{Obstacle, Refusal, Settings, number_of};
+
+// ---- answers as words
+
+// Writes the words of an answer, zeros where the call is refused, and answers its number.
+fn tell<const N: usize>(answer: Result<[u64; N], Refusal>, out: &mut [u64; N]) -> u32
+    ensures { outcome result out.new ≡ told N answer.entry }
+{
+    match answer {
+        Ok(words) => {
+            *out = words;
+            0
+        }
+        Err(why) => {
+            out.fill(0);
+            why.number()
+        }
+    }
+}
+
+#[tactic(auto, using(crate::proofs::Words::zero_pattern))]
+fn number_words(answer: Result<f64, Refusal>) -> Result<[u64; 1], Refusal>
+    ensures { told 1 result ≡ reading_told (reading_of answer) }
+{
+    Ok([number::pattern(answer?)])
+}
+
+#[tactic(auto, using(crate::proofs::Words::zero_pattern))]
+fn velocity_words(answer: Result<Velocity, Refusal>) -> Result<[u64; 2], Refusal>
+    ensures { told 2 result ≡ velocity_told (velocity_reading_of answer) }
+{
+    let u = answer?;
+    Ok([number::pattern(u.ux), number::pattern(u.uy)])
+}
+
+// A part of f cannot cross: where it starts and how many entries it has stand for it.
+fn plane_words(s: Settings, f: &[u64], direction: usize) -> Result<[u64; 2], Refusal>
+    ensures { told 2 result ≡ plane_told s f.now direction }
+{
+    let count = readings::plane(s, f, direction)?.len();
+    Ok([(direction * count) as u64, count as u64])
+}
+
+fn lossless_words(answer: Result<Answer, Refusal>) -> Result<[u64; 4], Refusal>
+    ensures { told 4 result ≡ lossless_told (reply (answer_of answer)) }
+{
+    match answer? {
+        Answer::Lossless => Ok([1, 0, 0, 0]),
+        Answer::Lossy(x, y, i) => Ok([0, x as u64, y as u64, i as u64]),
+    }
+}
+
+fn stored_words(answer: Result<Stored, Refusal>) -> Result<[u64; 3], Refusal>
+    ensures { told 3 result ≡ stored_told (told_by answer) }
+{
+    let a = answer?;
+    Ok([a.nx as u64, a.ny as u64, a.step])
+}
 
 // ---- the start and the readings
 
@@ -28,7 +86,7 @@ pub extern "C" fn brothwagon_initialize(w: &[u64; 20], table: &[u64], f: &mut [u
     ensures { outcome result f.new
         ≡ initialized (settings_of w.now) table.now f.old }
 {
-    readings::initialize(host::settings_of(w), table, f)
+    number_of(readings::initialize(host::settings_of(w), table, f))
 }
 
 #[unsafe(no_mangle)]
@@ -42,9 +100,8 @@ pub extern "C" fn brothwagon_density(
     ensures { outcome result rho.new
         ≡ reading_told (density_read (settings_of w.now) f.now x y) }
 {
-    let r = readings::density(host::settings_of(w), f, x, y);
-    *rho = [number::pattern(r.value)];
-    r.number
+    let density = readings::density(host::settings_of(w), f, x, y);
+    tell(number_words(density), rho)
 }
 
 #[unsafe(no_mangle)]
@@ -58,9 +115,8 @@ pub extern "C" fn brothwagon_velocity(
     ensures { outcome result u.new
         ≡ velocity_told (velocity_read (settings_of w.now) f.now x y) }
 {
-    let r = readings::velocity(host::settings_of(w), f, x, y);
-    *u = [number::pattern(r.ux), number::pattern(r.uy)];
-    r.number
+    let velocity = readings::velocity(host::settings_of(w), f, x, y);
+    tell(velocity_words(velocity), u)
 }
 
 #[unsafe(no_mangle)]
@@ -68,7 +124,7 @@ pub extern "C" fn brothwagon_velocity_field(w: &[u64; 20], f: &[u64], u: &mut [u
     ensures { outcome result u.new
         ≡ velocity_field_read (settings_of w.now) f.now u.old }
 {
-    readings::velocity_field(host::settings_of(w), f, u)
+    number_of(readings::velocity_field(host::settings_of(w), f, u))
 }
 
 #[unsafe(no_mangle)]
@@ -76,9 +132,8 @@ pub extern "C" fn brothwagon_total_mass(w: &[u64; 20], f: &[u64], mass: &mut [u6
     ensures { outcome result mass.new
         ≡ reading_told (total_mass_read (settings_of w.now) f.now) }
 {
-    let r = readings::total_mass(host::settings_of(w), f);
-    *mass = [number::pattern(r.value)];
-    r.number
+    let total = readings::total_mass(host::settings_of(w), f);
+    tell(number_words(total), mass)
 }
 
 #[unsafe(no_mangle)]
@@ -86,12 +141,10 @@ pub extern "C" fn brothwagon_kinetic_energy(w: &[u64; 20], f: &[u64], energy: &m
     ensures { outcome result energy.new
         ≡ reading_told (kinetic_energy_read (settings_of w.now) f.now) }
 {
-    let r = readings::kinetic_energy(host::settings_of(w), f);
-    *energy = [number::pattern(r.value)];
-    r.number
+    let kinetic = readings::kinetic_energy(host::settings_of(w), f);
+    tell(number_words(kinetic), energy)
 }
 
-// A part of f cannot cross: where it starts and how many entries it has stand for it.
 #[unsafe(no_mangle)]
 pub extern "C" fn brothwagon_plane(
     w: &[u64; 20],
@@ -102,11 +155,7 @@ pub extern "C" fn brothwagon_plane(
     ensures { outcome result part.new
         ≡ plane_told (settings_of w.now) f.now direction }
 {
-    let s = host::settings_of(w);
-    let number = readings::plane_refusal(s, f, direction);
-    let count = readings::plane(s, f, direction).len();
-    *part = [(direction * count) as u64, count as u64];
-    number
+    tell(plane_words(host::settings_of(w), f, direction), part)
 }
 
 // ---- streaming, the lossless question and the reverse
@@ -116,7 +165,7 @@ pub extern "C" fn brothwagon_stream_with_faces(w: &[u64; 20], post: &[u64], f: &
     ensures { outcome result f.new
         ≡ streamed_with_faces (settings_of w.now) post.now f.old }
 {
-    streaming::stream_with_faces(host::settings_of(w), post, f)
+    number_of(streaming::stream_with_faces(host::settings_of(w), post, f))
 }
 
 #[unsafe(no_mangle)]
@@ -124,21 +173,8 @@ pub extern "C" fn brothwagon_lossless(w: &[u64; 20], answer: &mut [u64; 4]) -> u
     ensures { outcome result answer.new
         ≡ lossless_told (reply (lossless_of (settings_of w.now))) }
 {
-    let a = lossless::lossless(host::settings_of(w));
-    match a {
-        Answer::Refused(number) => {
-            *answer = [0, 0, 0, 0];
-            number
-        }
-        Answer::Lossless => {
-            *answer = [1, 0, 0, 0];
-            0
-        }
-        Answer::Lossy(x, y, i) => {
-            *answer = [0, x as u64, y as u64, i as u64];
-            0
-        }
-    }
+    let lossless = lossless::lossless(host::settings_of(w));
+    tell(lossless_words(lossless), answer)
 }
 
 #[unsafe(no_mangle)]
@@ -146,7 +182,7 @@ pub extern "C" fn brothwagon_reverse(w: &[u64; 20], f: &[u64], post: &mut [u64])
     ensures { outcome result post.new
         ≡ reversed_of (settings_of w.now) f.now post.old }
 {
-    lossless::reverse(host::settings_of(w), f, post)
+    number_of(lossless::reverse(host::settings_of(w), f, post))
 }
 
 // ---- steps and runs
@@ -156,7 +192,7 @@ pub extern "C" fn brothwagon_step(w: &[u64; 20], f: &mut [u64], post: &mut [u64]
     ensures { left result f.new post.new
         ≡ step_of (settings_of w.now) f.old post.old }
 {
-    runs::step(host::settings_of(w), f, post)
+    number_of(runs::step(host::settings_of(w), f, post))
 }
 
 #[unsafe(no_mangle)]
@@ -164,9 +200,10 @@ pub extern "C" fn brothwagon_run(w: &[u64; 20], steps: u64, f: &mut [u64], post:
     ensures { left result f.new post.new
         ≡ run_of (settings_of w.now) steps f.old post.old }
 {
-    runs::run(host::settings_of(w), steps, f, post)
+    number_of(runs::run(host::settings_of(w), steps, f, post))
 }
 
+#[tactic(auto, using(crate::proofs::Words::zero_pattern))]
 #[unsafe(no_mangle)]
 pub extern "C" fn brothwagon_run_to_steady_state(
     w: &[u64; 20],
@@ -185,21 +222,22 @@ pub extern "C" fn brothwagon_run_to_steady_state(
     let s = host::settings_of(w);
     let a = runs::run_to_steady_state(s, tolerance, max_steps, check_every, f, post, u);
     match a {
-        Steady::Refused(number) => {
-            *answer = [0, 0, 0];
-            number
-        }
-        Steady::Settled(steps, residual) => {
+        Ok(Steady::Settled(steps, residual)) => {
             *answer = [1, steps, number::pattern(residual)];
             0
         }
-        Steady::RanOut(steps, residual) => {
+        Ok(Steady::RanOut(steps, residual)) => {
             *answer = [0, steps, number::pattern(residual)];
             0
         }
-        Steady::Ruined(steps) => {
+        // it has written, and so is no refusal
+        Ok(Steady::Ruined(steps)) => {
             *answer = [0, steps, 0];
             9
+        }
+        Err(why) => {
+            *answer = [0, 0, 0];
+            why.number()
         }
     }
 }
@@ -212,7 +250,7 @@ pub extern "C" fn brothwagon_set_no_slip_bc(w: &[u64; 20], list: &[Obstacle], f:
     ensures { outcome result f.new
         ≡ no_slip_set (settings_of w.now) list.now f.old }
 {
-    obstacles::set_no_slip_bc(host::settings_of(w), list, f)
+    number_of(obstacles::set_no_slip_bc(host::settings_of(w), list, f))
 }
 
 // ---- the checkpoint file
@@ -227,22 +265,14 @@ pub extern "C" fn brothwagon_write_checkpoint(
     ensures { outcome result file.new
         ≡ checkpoint_written (settings_of w.now) step f.now file.old }
 {
-    checkpoint::write_checkpoint(host::settings_of(w), step, f, file)
-}
-
-fn told(a: Stored) -> [u64; 3]
-    ensures { result ≡ (stored_told a).buffer }
-{
-    [a.nx as u64, a.ny as u64, a.step]
+    number_of(checkpoint::write_checkpoint(host::settings_of(w), step, f, file))
 }
 
 #[unsafe(no_mangle)]
 pub extern "C" fn brothwagon_checkpoint_sides(file: &[u8], answer: &mut [u64; 3]) -> u32
     ensures { outcome result answer.new ≡ stored_told (checkpoint_sides file.now) }
 {
-    let a = checkpoint::checkpoint_sides(file);
-    *answer = told(a);
-    a.number
+    tell(stored_words(checkpoint::checkpoint_sides(file)), answer)
 }
 
 #[unsafe(no_mangle)]
@@ -254,9 +284,7 @@ pub extern "C" fn brothwagon_read_checkpoint(
     ensures { read_left result answer.new f.new
         ≡ read_told (checkpoint_read file.now f.old) }
 {
-    let a = checkpoint::read_checkpoint(file, f);
-    *answer = told(a);
-    a.number
+    tell(stored_words(checkpoint::read_checkpoint(file, f)), answer)
 }
 
 // ---- the tally: an answer where it is worked out, and a lent buffer where it is moved or read
@@ -266,11 +294,7 @@ pub extern "C" fn brothwagon_tally(w: &[u64; 20], f: &[u64], t: &mut [u64; 10]) 
     ensures { outcome result t.new
         ≡ tally_told (tallied (settings_of w.now) f.now) }
 {
-    let a = tally::tally(host::settings_of(w), f);
-    // an array goes from a field by way of a local
-    let numbers = a.tally;
-    *t = numbers;
-    a.number
+    tell(tally::tally(host::settings_of(w), f), t)
 }
 
 #[unsafe(no_mangle)]
@@ -286,19 +310,19 @@ pub extern "C" fn brothwagon_write_entry(
     ensures { entered result f.new t.new
         ≡ entry_written (settings_of w.now) x y direction pattern f.old t.old }
 {
-    tally::write_entry(host::settings_of(w), x, y, direction, pattern, f, t)
+    number_of(tally::write_entry(host::settings_of(w), x, y, direction, pattern, f, t))
 }
 
 #[unsafe(no_mangle)]
 pub extern "C" fn brothwagon_write_tally(t: &[u64; 10], file: &mut [u8]) -> u32
     ensures { outcome result file.new ≡ tally_written t.now file.old }
 {
-    tally::write_tally(t, file)
+    number_of(tally::write_tally(t, file))
 }
 
 #[unsafe(no_mangle)]
 pub extern "C" fn brothwagon_read_tally(file: &[u8], t: &mut [u64]) -> u32
     ensures { outcome result t.new ≡ tally_read file.now t.old }
 {
-    tally::read_tally(file, t)
+    number_of(tally::read_tally(file, t))
 }

@@ -4,6 +4,8 @@ use Rattle.std.specs.Float.Ieee.{lt}
 use Rattle.number.specs.Number.{◌⊕◌, ◌⊖◌, ◌⊗◌, ◌⊘◌, c0, c½, c1, c1½, c1·54, c1·64, c2, c3, c4½, c8, c9, not_both_zero, magnitude_of}
 use Rattle.number.specs.Nine.{at, nine, sum_to}
 use Rattle.lattice.specs.Lattice.{ex, ey, W, OPP, basis_floats, norm_floats}
+use Rattle.lattice.specs.declared.Axis.{Axis}
+use Rattle.lattice.specs.declared.Axis.TheVariants.{X, Y}
 use Rattle.cell.specs.declared.Moments.{Moments}
 use Rattle.cell.specs.declared.bgk.BgkRates.{BgkRates}
 use Rattle.cell.specs.declared.trt.TrtRates.{TrtRates}
@@ -24,6 +26,10 @@ momentum_x f = sum_to (λ i. at f i ⊗ ex i) 9
 
 unfoldable pub momentum_y : List Float → Float
 momentum_y f = sum_to (λ i. at f i ⊗ ey i) 9
+
+abbrev pub momentum : List Float → Axis → Float
+momentum f X = momentum_x f
+momentum f Y = momentum_y f
 
 -- ---- the two readings, for the force (fx, fy) and the floor: below it a density is too small to divide by
 

@@ -1,57 +1,49 @@
-// Guo's source.
-ghost use Rattle.std.specs.Prelude.{◌≡◌, ◌<◌};
-ghost use Rattle.cell.specs.Cell.{along_force, guo_at, guo_sources, forced_by};
+// The force on every cell of a study, and Guo's source.
+ghost use Rattle.std.specs.Prelude.{◌≡◌};
+ghost use Rattle.cell.specs.Cell.{guo_at, forced_by, sources_of};
 
 use crate::Moments;
 use crate::equilibrium::along;
-use lattice::{e_x, e_y, weight};
+use lattice::{Axis, Direction};
 
-// e·F for the nine directions.
-pub fn along_force(fx: f64, fy: f64) -> [f64; 9]
-    ensures { result ≡ along_force fx fy }
-{
-    [
-        along(0, fx, fy),
-        along(1, fx, fy),
-        along(2, fx, fy),
-        along(3, fx, fy),
-        along(4, fx, fy),
-        along(5, fx, fy),
-        along(6, fx, fy),
-        along(7, fx, fy),
-        along(8, fx, fy),
-    ]
+#[derive(Clone, Copy, Debug, PartialEq)]
+pub struct Force {
+    pub x: f64,
+    pub y: f64,
 }
 
-// Guo's source, before its factor. e·F is passed, since it is the same for every cell of a pass.
-fn guo_source(i: usize, m: Moments, fx: f64, fy: f64, ef: [f64; 9]) -> f64
-    requires { (i < 9) × (ef ≡ along_force fx fy) }
-    ensures { result ≡ guo_at i m fx fy }
+impl Force {
+    // Whether a component differs from 0.
+    #[tactic(auto, unfolding(crate::specs::Cell::forced_by))]
+    pub fn acts(self) -> bool
+        ensures { result ≡ forced_by self.x self.y }
+    {
+        (self.x != 0.0) | (self.y != 0.0)
+    }
+}
+
+// Guo's source, before its factor.
+#[tactic(auto, unfolding(crate::specs::Cell::guo_at))]
+fn guo_source(i: Direction, m: Moments, force: Force) -> f64
+    ensures { result ≡ guo_at i.index m force.x force.y }
 {
     let eu = along(i, m.ux, m.uy);
-    weight(i) * (3.0 * ((e_x(i) - m.ux) * fx + (e_y(i) - m.uy) * fy) + 9.0 * eu * ef[i])
+    let ef = along(i, force.x, force.y);
+    i.weight()
+        * (3.0 * ((i.e(Axis::X) - m.ux) * force.x + (i.e(Axis::Y) - m.uy) * force.y)
+            + 9.0 * eu * ef)
 }
 
-pub fn guo_sources(m: Moments, fx: f64, fy: f64, ef: [f64; 9]) -> [f64; 9]
-    requires { ef ≡ along_force fx fy }
-    ensures { result ≡ guo_sources m fx fy }
+// Nine zeros where no force acts. Whether one does is known before the loop over the cells.
+#[inline(always)]
+#[tactic(auto, unfolding(crate::specs::Cell::sources_of, crate::specs::Cell::no_source))]
+pub fn sources<const FORCED: bool>(m: Moments, force: Force) -> [f64; 9]
+    requires { forced_by force.x force.y ≡ FORCED }
+    ensures { result ≡ sources_of m force.x force.y }
 {
-    [
-        guo_source(0, m, fx, fy, ef),
-        guo_source(1, m, fx, fy, ef),
-        guo_source(2, m, fx, fy, ef),
-        guo_source(3, m, fx, fy, ef),
-        guo_source(4, m, fx, fy, ef),
-        guo_source(5, m, fx, fy, ef),
-        guo_source(6, m, fx, fy, ef),
-        guo_source(7, m, fx, fy, ef),
-        guo_source(8, m, fx, fy, ef),
-    ]
-}
-
-// Whether a force component differs from 0.
-pub fn forced(fx: f64, fy: f64) -> bool
-    ensures { result ≡ forced_by fx fy }
-{
-    (fx != 0.0) | (fy != 0.0)
+    if FORCED {
+        lattice::nine(|i| guo_source(i, m, force))
+    } else {
+        [0.0; 9]
+    }
 }

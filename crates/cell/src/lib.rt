@@ -1,26 +1,28 @@
-// The arithmetic of one cell, in the order of the Rust: every operation rounded once, zero products kept, sums over i = 0..8 from +0.0.
+// The arithmetic of one cell, in the order of the Rust: every operation rounded once, zero products kept, sums over i = 0..8 from
+// +0.0.
 //
-// All of it is straight-line code over literal directions, in functions small enough to be inlined, so that the loop over the cells of a pass
-// can take several cells at once. A loop over nine, or a table read at a variable place, would end that; so would a function that two
-// of the cells share, if it were too large to be inlined in both.
+// It is straight-line code over literal directions: a loop over nine, or a table read at a variable place, would keep what it works
+// on in memory. All of it is inlined into the loop over the cells of a pass, so that no call hands over an array.
 #![tactic(auto)]
 
 mod bgk;
 mod equilibrium;
 mod guo;
+mod kinds;
 mod macroscopic;
 mod mrt;
 mod trt;
 
-pub use bgk::{BgkRates, bgk_cell, bgk_cell_any, bgk_cell_forced, bgk_rates};
+pub use bgk::BgkRates;
 pub use equilibrium::equilibria;
-pub use guo::forced;
+pub use guo::Force;
+pub use kinds::{Collide, cell};
 pub use macroscopic::{density, read_moments};
-pub use mrt::{MrtRates, mrt_cell, mrt_rates};
-pub use trt::{TrtRates, trt_cell, trt_cell_any, trt_cell_forced, trt_rates};
+pub use mrt::MrtRates;
+pub use trt::TrtRates;
 
 // A cell's density and velocity.
-#[derive(Clone, Copy)]
+#[derive(Clone, Copy, Debug, PartialEq)]
 pub struct Moments {
     pub density: f64,
     pub ux: f64,
@@ -28,7 +30,7 @@ pub struct Moments {
 }
 
 // The kinds. Trt carries its minus rate.
-#[derive(Clone, Copy)]
+#[derive(Clone, Copy, Debug, PartialEq)]
 pub enum Collision {
     Bgk,
     Mrt,

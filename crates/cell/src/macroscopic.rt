@@ -1,16 +1,19 @@
 // Density and momentum, and the two readings of a cell, each with half of the force in the momentum.
 ghost use Rattle.std.specs.Prelude.{◌≡◌};
-ghost use Rattle.cell.specs.Cell.{density_of, sum_of_products, momentum_x, momentum_y, read_moments, inverse_of, collision_moments};
+ghost use Rattle.cell.specs.Cell.{density_of, sum_of_products, momentum, read_moments, inverse_of, collision_moments};
 
 use crate::Moments;
-use lattice::{e_x, e_y};
+use crate::guo::Force;
+use lattice::Axis;
 
+#[tactic(auto, unfolding(crate::specs::Cell::density_of, number::specs::Nine::sum_to))]
 pub fn density(f: [f64; 9]) -> f64
     ensures { result ≡ density_of f }
 {
     0.0 + f[0] + f[1] + f[2] + f[3] + f[4] + f[5] + f[6] + f[7] + f[8]
 }
 
+#[tactic(auto, unfolding(crate::specs::Cell::sum_of_products, number::specs::Nine::sum_to))]
 pub fn sum_of_products(a: [f64; 9], b: [f64; 9]) -> f64
     ensures { result ≡ sum_of_products a b }
 {
@@ -25,47 +28,16 @@ pub fn sum_of_products(a: [f64; 9], b: [f64; 9]) -> f64
         + a[8] * b[8]
 }
 
-fn momentum_x(f: [f64; 9]) -> f64
-    ensures { result ≡ momentum_x f }
+fn momentum(f: [f64; 9], axis: Axis) -> f64
+    ensures { result ≡ momentum f axis }
 {
-    sum_of_products(
-        f,
-        [
-            e_x(0),
-            e_x(1),
-            e_x(2),
-            e_x(3),
-            e_x(4),
-            e_x(5),
-            e_x(6),
-            e_x(7),
-            e_x(8),
-        ],
-    )
-}
-
-fn momentum_y(f: [f64; 9]) -> f64
-    ensures { result ≡ momentum_y f }
-{
-    sum_of_products(
-        f,
-        [
-            e_y(0),
-            e_y(1),
-            e_y(2),
-            e_y(3),
-            e_y(4),
-            e_y(5),
-            e_y(6),
-            e_y(7),
-            e_y(8),
-        ],
-    )
+    sum_of_products(f, lattice::nine(|i| i.e(axis)))
 }
 
 // What is read of a cell: at rest where the density is below the floor, negative densities included. Collision has a test of its own.
-pub fn read_moments(f: [f64; 9], fx: f64, fy: f64, floor: f64) -> Moments
-    ensures { result ≡ read_moments f fx fy floor }
+#[tactic(auto, unfolding(crate::specs::Cell::read_moments))]
+pub fn read_moments(f: [f64; 9], force: Force, floor: f64) -> Moments
+    ensures { result ≡ read_moments f force.x force.y floor }
 {
     let rho = density(f);
     if rho < floor {
@@ -77,12 +49,13 @@ pub fn read_moments(f: [f64; 9], fx: f64, fy: f64, floor: f64) -> Moments
     }
     Moments {
         density: rho,
-        ux: (momentum_x(f) + 0.5 * fx) / rho,
-        uy: (momentum_y(f) + 0.5 * fy) / rho,
+        ux: (momentum(f, Axis::X) + 0.5 * force.x) / rho,
+        uy: (momentum(f, Axis::Y) + 0.5 * force.y) / rho,
     }
 }
 
 // Collision's inverse of the density: 0 only where the magnitude is below the floor.
+#[tactic(auto, unfolding(crate::specs::Cell::inverse_of))]
 fn inverse(rho: f64, floor: f64) -> f64
     ensures { result ≡ inverse_of rho floor }
 {
@@ -94,14 +67,15 @@ fn inverse(rho: f64, floor: f64) -> f64
 }
 
 // What collision works with.
-pub fn collision_moments(f: [f64; 9], fx: f64, fy: f64, floor: f64) -> Moments
-    ensures { result ≡ collision_moments f fx fy floor }
+#[tactic(auto, unfolding(crate::specs::Cell::collision_moments))]
+pub fn collision_moments(f: [f64; 9], force: Force, floor: f64) -> Moments
+    ensures { result ≡ collision_moments f force.x force.y floor }
 {
     let rho = density(f);
     let inv_rho = inverse(rho, floor);
     Moments {
         density: rho,
-        ux: (momentum_x(f) + 0.5 * fx) * inv_rho,
-        uy: (momentum_y(f) + 0.5 * fy) * inv_rho,
+        ux: (momentum(f, Axis::X) + 0.5 * force.x) * inv_rho,
+        uy: (momentum(f, Axis::Y) + 0.5 * force.y) * inv_rho,
     }
 }

@@ -1,3 +1,4 @@
 pub mod Files
+pub mod Told
 pub mod Round
 pub mod One

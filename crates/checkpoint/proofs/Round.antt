@@ -16,11 +16,10 @@ use Rattle.settings.specs.Refusals.{refusal}
 use Rattle.settings.specs.Outcome.{answer, Written}
 use Rattle.settings.proofs.Laws.{known, none, sides_ok}
 use Rattle.settings.proofs.Outcome.{answered}
-use Rattle.checkpoint.specs.declared.Stored.{Stored}
-use Rattle.checkpoint.specs.Checkpoint.{count_of, checkpoint_of, head_of, entries_of, Read, read, checkpoint_written, checkpoint_sides, checkpoint_read}
+use Rattle.checkpoint.specs.Checkpoint.{Told, count_of, checkpoint_of, head_of, entries_of, Read, read, checkpoint_written, checkpoint_sides, checkpoint_read}
 use Rattle.checkpoint.proofs.Files.{Patterns, heading, head_laid, file_laid, head_of_file, entries_of_file}
 
-abbrev stored : ℕ → ℕ → ℕ → Stored
+abbrev stored : ℕ → ℕ → ℕ → Told
 stored nx ny step = record { number = 0; nx = nx; ny = ny; step = step }
 
 -- ---- WHAT WAS WRITTEN IS READ BACK, every bit of it
@@ -119,7 +118,7 @@ unfolding length_bad
 asked_then_read file lent zero fits =
     let h = head_of file in
     let is : checkpoint_sides file ≡ stored h.nx h.ny h.step = sym (answered _ refl zero refl) in
-    let size : length lent ≡ 9 * (h.nx * h.ny) = fits ∙ ap (λ (r : Stored). 9 * (r.nx * r.ny)) is in
+    let size : length lent ≡ 9 * (h.nx * h.ny) = fits ∙ ap (λ (r : Told). 9 * (r.nx * r.ny)) is in
     let passes : refusal (Call.read_checkpoint h (length lent)) ≡ 0 =
     question_first h (length lent) ∙ sym (answered _ refl zero (rw (eq-eqb (length lent) (9 * (h.nx * h.ny)) size))) in
-    read_done file lent passes ∙ ap (λ (r : Stored). read r (entries_of file)) (sym is)
+    read_done file lent passes ∙ ap (λ (r : Told). read r (entries_of file)) (sym is)

@@ -1,49 +1,69 @@
 // The checkpoint file of a state: written, asked for its sides, and read.
 #![tactic(auto)]
 
-ghost use Rattle.std.specs.Prelude.{◌≡◌, ◌≤◌, length};
-ghost use Rattle.words.specs.Words.{Laid};
+ghost use Rattle.std.specs.Prelude.{◌≡◌, ◌+◌, ◌*◌, ◌≤◌, length};
+ghost use Rattle.words.specs.Words.{numbers_at};
 ghost use Rattle.grid.specs.Grid.{Grid};
 ghost use Rattle.settings.specs.Outcome.{outcome};
-ghost use Rattle.checkpoint.specs.Checkpoint.{head_bytes, head_of, told, read, checkpoint_written, checkpoint_sides, checkpoint_read};
+ghost use Rattle.settings.specs.Refused.{number_of};
+ghost use Rattle.checkpoint.specs.Checkpoint.{head_bytes, checkpoint_of, head_of, stored_of, told_by, read, checkpoint_written, checkpoint_sides, checkpoint_read};
 
-use settings::{Head, Settings};
+use settings::{Head, Refusal, Settings};
 
-// A number of the rules, and the sides and the step number of a file: zeros where the call is refused.
-#[derive(Clone, Copy)]
+// The bytes before the entries.
+const HEAD: usize = 13;
+
+// The sides and the step number of a file.
+#[derive(Clone, Copy, Debug, PartialEq, Eq)]
 pub struct Stored {
-    pub number: u32,
     pub nx: usize,
     pub ny: usize,
     pub step: u64,
 }
 
+impl From<Head> for Stored {
+    ghost from_gives = { λ h stored. stored ≡ stored_of h };
+
+    fn from(h: Head) -> Stored {
+        Stored {
+            nx: h.nx,
+            ny: h.ny,
+            step: h.step,
+        }
+    }
+}
+
 // ---- writing
 
-// The bytes before the entries: count, version, sides and step number.
-fn write_head(nx: usize, ny: usize, step: u32, file: &mut [u8])
-    requires { Grid nx ny × (13 ≤ length file.old) }
-    ensures { Laid file.old file.new 0 (head_bytes nx ny step) }
+// The head of a file: count, version, sides and step number.
+fn write_head(nx: usize, ny: usize, step: u32, head: &mut [u8])
+    requires { Grid nx ny × (length head.old ≡ 13) }
+    ensures { head.new ≡ head_bytes nx ny step }
 {
-    words::put_number(4, (9 + 72 * (nx * ny)) as u64, file, 0);
-    words::put_number(1, 1, file, 4);
-    words::put_number(2, nx as u64, file, 5);
-    words::put_number(2, ny as u64, file, 7);
-    words::put_number(4, step as u64, file, 9);
+    words::put_number((9 + 72 * (nx * ny)) as u64, &mut head[0..4]);
+    words::put_number(1, &mut head[4..5]);
+    words::put_number(nx as u64, &mut head[5..7]);
+    words::put_number(ny as u64, &mut head[7..9]);
+    words::put_number(u64::from(step), &mut head[9..13]);
+}
+
+// The whole file: head and entries.
+fn write_file(nx: usize, ny: usize, step: u32, f: &[u64], file: &mut [u8])
+    requires { Grid nx ny × (length f.now ≡ 9 * (nx * ny)) × (length file.old ≡ 13 + 72 * (nx * ny)) }
+    ensures { file.new ≡ checkpoint_of nx ny step f.now }
+{
+    write_head(nx, ny, step, &mut file[..HEAD]);
+    words::write_words(f, &mut file[HEAD..]);
 }
 
 // Writes the file of these populations after so many steps.
-pub fn write_checkpoint(s: Settings, step: u32, f: &[u64], file: &mut [u8]) -> u32
-    ensures { outcome result file.new
+pub fn write_checkpoint(s: Settings, step: u32, f: &[u64], file: &mut [u8]) -> Result<(), Refusal>
+    ensures { outcome (number_of result) file.new
         ≡ checkpoint_written s step f.now file.old }
 {
-    let number = settings::write_checkpoint_refusal(s, f.len(), file.len());
-    if number != 0 {
-        return number;
-    }
-    write_head(s.nx, s.ny, step, file);
-    words::write_words(f, file, 13);
-    0
+    settings::check_write_checkpoint(s, f.len(), file.len())?;
+    write_file(s.nx, s.ny, step, f, file);
+    Ok(())
 }
 
 // ---- reading
@@ -61,43 +81,29 @@ fn head(file: &[u8]) -> Head
     }
 }
 
-// What the file of this head answers.
-fn tell(number: u32, h: Head) -> Stored
-    ensures { result ≡ told number h }
+// Reads the entries of a file.
+fn read_entries(file: &[u8], f: &mut [u64])
+    requires { 13 + 8 * length f.old ≤ length file.now }
+    ensures { f.new ≡ numbers_at 8 (length f.old) file.now 13 }
 {
-    if number != 0 {
-        return Stored {
-            number,
-            nx: 0,
-            ny: 0,
-            step: 0,
-        };
-    }
-    Stored {
-        number: 0,
-        nx: h.nx,
-        ny: h.ny,
-        step: h.step,
-    }
+    words::read_words(&file[HEAD..], f);
 }
 
 // The sides and the step number of a file.
-pub fn checkpoint_sides(file: &[u8]) -> Stored
-    ensures { result ≡ checkpoint_sides file.now }
+pub fn checkpoint_sides(file: &[u8]) -> Result<Stored, Refusal>
+    ensures { told_by result ≡ checkpoint_sides file.now }
 {
     let h = head(file);
-    tell(settings::checkpoint_sides_refusal(h), h)
+    settings::check_checkpoint_sides(h)?;
+    Ok(Stored::from(h))
 }
 
 // Reads a file into f.
-pub fn read_checkpoint(file: &[u8], f: &mut [u64]) -> Stored
-    ensures { read result f.new ≡ checkpoint_read file.now f.old }
+pub fn read_checkpoint(file: &[u8], f: &mut [u64]) -> Result<Stored, Refusal>
+    ensures { read (told_by result) f.new ≡ checkpoint_read file.now f.old }
 {
     let h = head(file);
-    let number = settings::read_checkpoint_refusal(h, f.len());
-    if number != 0 {
-        return tell(number, h);
-    }
-    words::read_words(file, 13, f);
-    tell(number, h)
+    settings::check_read_checkpoint(h, f.len())?;
+    read_entries(file, f);
+    Ok(Stored::from(h))
 }

@@ -1,5 +1,6 @@
 // A state of one cell, and its file.
 use cell::Collision;
+use checkpoint::Stored;
 use settings::{Face, Settings};
 
 // Each byte of the step number and of seven entries is another one; then a NaN that signals, and all bits set.
@@ -16,6 +17,13 @@ pub const F: [u64; 9] = [
     0x7ff0_0000_0000_0001,
     0xffff_ffff_ffff_ffff,
 ];
+
+// What hosts are given of a file that is refused.
+pub const NOTHING: Stored = Stored {
+    nx: 0,
+    ny: 0,
+    step: 0,
+};
 
 pub fn sized(nx: usize, ny: usize) -> Settings {
     Settings {
@@ -36,15 +44,15 @@ pub fn sized(nx: usize, ny: usize) -> Settings {
 // The file of that state, with one byte more behind it.
 pub fn file() -> [u8; 86] {
     let mut file = [0; 86];
-    checkpoint::write_checkpoint(sized(1, 1), STEP, &F, &mut file[0..85]);
+    checkpoint::write_checkpoint(sized(1, 1), STEP, &F, &mut file[0..85]).unwrap_or(());
     file
 }
 
 // The same with another byte at k.
 pub fn changed(k: usize, byte: u8) -> [u8; 86] {
     let mut file = file();
-    if k < 86 {
-        file[k] = byte;
+    if let Some(there) = file.get_mut(k) {
+        *there = byte;
     }
     file
 }

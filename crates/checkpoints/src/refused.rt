@@ -1,30 +1,32 @@
 // Every number of every operation on a file, and their order: zeros are answered, and lent buffers stay as they were.
 use crate::given::{F, changed, sized};
 use crate::{given, lines};
-use checkpoint::Stored;
-use settings::Settings;
-use show::{CANARY, kept};
+use settings::{Settings, number_of};
+use show::{CANARY, full_of, kept};
 use std::io;
-
-fn zeros(r: Stored) -> bool {
-    (r.nx == 0) & (r.ny == 0) & (r.step == 0)
-}
 
 // ---- reading: a good file of 85 bytes, and one more behind it, with byte k turned to another, and cut to a length
 
 fn asked(rt: &impl Print, k: usize, byte: u8, file: &[u8]) -> io::Result<()> {
-    let r = checkpoint::checkpoint_sides(file);
-    lines::changed(rt, b"checkpoint_sides", k, byte, file.len(), r.number)?;
-    show::holds(rt, zeros(r), b", zeros")?;
+    let sides = checkpoint::checkpoint_sides(file);
+    lines::changed(
+        rt,
+        "checkpoint_sides",
+        k,
+        byte,
+        file.len(),
+        number_of(sides),
+    )?;
+    show::holds(rt, sides.is_err(), ", zeros")?;
     show::newline(rt)
 }
 
 fn read(rt: &impl Print, k: usize, byte: u8, file: &[u8], f: &mut [u64]) -> io::Result<()> {
-    let r = checkpoint::read_checkpoint(file, f);
-    lines::changed(rt, b"read_checkpoint", k, byte, file.len(), r.number)?;
-    show::holds(rt, zeros(r), b", zeros")?;
-    show::value(rt, b", ", f.len() as u64)?;
-    show::holds(rt, kept(f), b" left")?;
+    let read = checkpoint::read_checkpoint(file, f);
+    lines::changed(rt, "read_checkpoint", k, byte, file.len(), number_of(read))?;
+    show::holds(rt, read.is_err(), ", zeros")?;
+    show::value(rt, ", ", f.len() as u64)?;
+    show::holds(rt, kept(f), " left")?;
     show::newline(rt)
 }
 
@@ -88,50 +90,48 @@ fn lent(rt: &impl Print) -> io::Result<()> {
 pub const BYTE: u8 = 0xa5;
 
 pub fn bytes_kept(file: &[u8]) -> bool {
-    let mut k = 0;
-    while k < file.len() {
-        if file[k] != BYTE {
-            return false;
-        }
-        k += 1;
-    }
-    true
+    full_of(file, &BYTE)
 }
 
-fn write(rt: &impl Print, case: &[u8], s: Settings, f: &[u64], file: &mut [u8]) -> io::Result<()> {
-    let number = checkpoint::write_checkpoint(s, 1, f, file);
-    show::gives(rt, b"write_checkpoint", case, number)?;
-    show::holds(rt, bytes_kept(file), b", left")?;
-    show::newline(rt)
+fn write(rt: &impl Print, case: &str, s: Settings, f: &[u64], file: &mut [u8]) -> io::Result<()> {
+    let number = number_of(checkpoint::write_checkpoint(s, 1, f, file));
+    show::refused(
+        rt,
+        "write_checkpoint",
+        case,
+        number,
+        bytes_kept(file),
+        ", left",
+    )
 }
 
 // On a file of the right length for one cell.
-fn write_one(rt: &impl Print, case: &[u8], s: Settings, f: &[u64]) -> io::Result<()> {
+fn write_one(rt: &impl Print, case: &str, s: Settings, f: &[u64]) -> io::Result<()> {
     let mut file = [BYTE; 85];
     write(rt, case, s, f, &mut file)
 }
 
 fn writing(rt: &impl Print) -> io::Result<()> {
-    write_one(rt, b"0 by 1", sized(0, 1), &F)?;
-    write_one(rt, b"1 by 4097", sized(1, 4097), &F)?;
-    write_one(rt, b"4096 by 257", sized(4096, 257), &F)?;
-    write_one(rt, b"populations 8", sized(1, 1), &[CANARY; 8])?;
-    write_one(rt, b"populations 10", sized(1, 1), &[CANARY; 10])
+    write_one(rt, "0 by 1", sized(0, 1), &F)?;
+    write_one(rt, "1 by 4097", sized(1, 4097), &F)?;
+    write_one(rt, "4096 by 257", sized(4096, 257), &F)?;
+    write_one(rt, "populations 8", sized(1, 1), &[CANARY; 8])?;
+    write_one(rt, "populations 10", sized(1, 1), &[CANARY; 10])
 }
 
 fn rooms(rt: &impl Print) -> io::Result<()> {
     let mut short = [BYTE; 84];
     let mut long = [BYTE; 86];
-    write(rt, b"file 84", sized(1, 1), &F, &mut short)?;
-    write(rt, b"file 86", sized(1, 1), &F, &mut long)?;
-    write(rt, b"0 by 1, file 84", sized(0, 1), &F, &mut short)
+    write(rt, "file 84", sized(1, 1), &F, &mut short)?;
+    write(rt, "file 86", sized(1, 1), &F, &mut long)?;
+    write(rt, "0 by 1, file 84", sized(0, 1), &F, &mut short)
 }
 
 // Sides whose product, and whose file's length, would wrap to those of no cell.
 fn wrapping(rt: &impl Print) -> io::Result<()> {
     let mut head = [BYTE; 13];
     let s = sized(4294967296, 4294967296);
-    write(rt, b"4294967296 by 4294967296", s, &[0; 0], &mut head)
+    write(rt, "4294967296 by 4294967296", s, &[0; 0], &mut head)
 }
 
 pub fn all(rt: &impl Print) -> io::Result<()> {

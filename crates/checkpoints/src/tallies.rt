@@ -2,11 +2,12 @@
 use crate::given::{F, sized};
 use crate::lines;
 use crate::refused::{BYTE, bytes_kept};
-use show::{CANARY, kept, same};
+use settings::number_of;
+use show::{CANARY, kept};
 use std::io;
 
 fn own() -> [u64; 10] {
-    tally::tally(sized(1, 1), &F).tally
+    tally::tally(sized(1, 1), &F).unwrap_or([0; 10])
 }
 
 // ---- what is written, and read back
@@ -14,14 +15,14 @@ fn own() -> [u64; 10] {
 fn written(rt: &impl Print) -> io::Result<()> {
     let t = own();
     let mut file = [0; 85];
-    let number = tally::write_tally(&t, &mut file);
-    show::gives(rt, b"write_tally", b"1 by 1", number)?;
+    let number = number_of(tally::write_tally(&t, &mut file));
+    show::gives(rt, "write_tally", "1 by 1", number)?;
     show::newline(rt)?;
     lines::bytes(rt, &file)?;
     let mut u = [CANARY; 10];
-    let number = tally::read_tally(&file, &mut u);
-    show::gives(rt, b"read_tally", b"what was written", number)?;
-    show::holds(rt, same(&u, &t), b", every bit")?;
+    let number = number_of(tally::read_tally(&file, &mut u));
+    show::gives(rt, "read_tally", "what was written", number)?;
+    show::holds(rt, u == t, ", every bit")?;
     show::newline(rt)
 }
 
@@ -29,11 +30,11 @@ fn written(rt: &impl Print) -> io::Result<()> {
 fn moved(rt: &impl Print) -> io::Result<()> {
     let mut f = F;
     let mut t = own();
-    let number = tally::write_entry(sized(1, 1), 0, 0, 8, 1, &mut f, &mut t);
-    show::gives(rt, b"write_entry", b"1 by 1", number)?;
+    let number = number_of(tally::write_entry(sized(1, 1), 0, 0, 8, 1, &mut f, &mut t));
+    show::gives(rt, "write_entry", "1 by 1", number)?;
     show::newline(rt)?;
     let mut file = [0; 85];
-    tally::write_tally(&t, &mut file);
+    tally::write_tally(&t, &mut file).unwrap_or(());
     lines::bytes(rt, &file)
 }
 
@@ -41,9 +42,9 @@ fn moved(rt: &impl Print) -> io::Result<()> {
 
 fn changed(k: usize, byte: u8) -> [u8; 86] {
     let mut file = [0; 86];
-    tally::write_tally(&own(), &mut file[0..85]);
-    if k < 86 {
-        file[k] = byte;
+    tally::write_tally(&own(), &mut file[0..85]).unwrap_or(());
+    if let Some(there) = file.get_mut(k) {
+        *there = byte;
     }
     file
 }
@@ -51,10 +52,10 @@ fn changed(k: usize, byte: u8) -> [u8; 86] {
 fn read(rt: &impl Print, k: usize, byte: u8, length: usize, t: &mut [u64]) -> io::Result<()> {
     let file = changed(k, byte);
     if length <= 86 {
-        let number = tally::read_tally(&file[0..length], t);
-        lines::changed(rt, b"read_tally", k, byte, length, number)?;
-        show::value(rt, b", ", t.len() as u64)?;
-        show::holds(rt, kept(t), b" left")?;
+        let number = number_of(tally::read_tally(&file[0..length], t));
+        lines::changed(rt, "read_tally", k, byte, length, number)?;
+        show::value(rt, ", ", t.len() as u64)?;
+        show::holds(rt, kept(t), " left")?;
         show::newline(rt)?;
     }
     Ok(())
@@ -89,21 +90,19 @@ fn sums(rt: &impl Print) -> io::Result<()> {
 
 // ---- writing
 
-fn write(rt: &impl Print, case: &[u8], t: &[u64; 10], file: &mut [u8]) -> io::Result<()> {
-    let number = tally::write_tally(t, file);
-    show::gives(rt, b"write_tally", case, number)?;
-    show::holds(rt, bytes_kept(file), b", left")?;
-    show::newline(rt)
+fn write(rt: &impl Print, case: &str, t: &[u64; 10], file: &mut [u8]) -> io::Result<()> {
+    let number = number_of(tally::write_tally(t, file));
+    show::refused(rt, "write_tally", case, number, bytes_kept(file), ", left")
 }
 
 fn writing(rt: &impl Print) -> io::Result<()> {
     let mut file = [BYTE; 85];
     let mut short = [BYTE; 84];
     let mut long = [BYTE; 86];
-    write(rt, b"ten canaries", &[CANARY; 10], &mut file)?;
-    write(rt, b"ten canaries, file 84", &[CANARY; 10], &mut short)?;
-    write(rt, b"file 84", &own(), &mut short)?;
-    write(rt, b"file 86", &own(), &mut long)
+    write(rt, "ten canaries", &[CANARY; 10], &mut file)?;
+    write(rt, "ten canaries, file 84", &[CANARY; 10], &mut short)?;
+    write(rt, "file 84", &own(), &mut short)?;
+    write(rt, "file 86", &own(), &mut long)
 }
 
 pub fn all(rt: &impl Print) -> io::Result<()> {

@@ -1,22 +1,23 @@
 // The bytes of files, which `stdout` has as the document spells them, and what is read of them.
-use crate::given::{F, STEP};
+use crate::given::{F, NOTHING, STEP};
 use crate::{given, lines};
-use show::{CANARY, same};
+use settings::number_of;
+use show::CANARY;
 use std::io;
 
 fn read_back(rt: &impl Print, file: &[u8]) -> io::Result<()> {
     let mut f = [CANARY; 9];
-    let r = checkpoint::read_checkpoint(file, &mut f);
-    show::gives(rt, b"read_checkpoint", b"what was written", r.number)?;
-    lines::stored(rt, r)?;
-    show::holds(rt, same(&f, &F), b", every bit")?;
+    let read = checkpoint::read_checkpoint(file, &mut f);
+    show::gives(rt, "read_checkpoint", "what was written", number_of(read))?;
+    lines::stored(rt, read.unwrap_or(NOTHING))?;
+    show::holds(rt, f == F, ", every bit")?;
     show::newline(rt)
 }
 
 fn one_by_one(rt: &impl Print) -> io::Result<()> {
     let mut file = [0; 85];
-    let number = checkpoint::write_checkpoint(given::sized(1, 1), STEP, &F, &mut file);
-    show::gives(rt, b"write_checkpoint", b"1 by 1", number)?;
+    let written = checkpoint::write_checkpoint(given::sized(1, 1), STEP, &F, &mut file);
+    show::gives(rt, "write_checkpoint", "1 by 1", number_of(written))?;
     show::newline(rt)?;
     lines::bytes(rt, &file)?;
     read_back(rt, &file)
@@ -25,13 +26,13 @@ fn one_by_one(rt: &impl Print) -> io::Result<()> {
 // Sides that differ, and a count of two bytes.
 fn three_by_two(rt: &impl Print) -> io::Result<()> {
     let mut file = [0; 445];
-    let number = checkpoint::write_checkpoint(given::sized(3, 2), 0, &[CANARY; 54], &mut file);
-    show::gives(rt, b"write_checkpoint", b"3 by 2", number)?;
+    let written = checkpoint::write_checkpoint(given::sized(3, 2), 0, &[CANARY; 54], &mut file);
+    show::gives(rt, "write_checkpoint", "3 by 2", number_of(written))?;
     show::newline(rt)?;
     lines::bytes(rt, &file[0..13])?;
-    let r = checkpoint::checkpoint_sides(&file);
-    show::gives(rt, b"checkpoint_sides", b"3 by 2", r.number)?;
-    lines::stored(rt, r)?;
+    let sides = checkpoint::checkpoint_sides(&file);
+    show::gives(rt, "checkpoint_sides", "3 by 2", number_of(sides))?;
+    lines::stored(rt, sides.unwrap_or(NOTHING))?;
     show::newline(rt)
 }
 

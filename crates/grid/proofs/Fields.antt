@@ -36,9 +36,6 @@ is_listed n l g size entries =
 pub same_refl : {nx ny : ℕ} {p : Field} → Same nx ny p p
 same_refl = record { here = λ x y i hx hy hi. refl }
 
-pub same_sym : {nx ny : ℕ} {p q : Field} → Same nx ny p q → Same nx ny q p
-same_sym s = record { here = λ x y i hx hy hi. sym (s.here x y i hx hy hi) }
-
 pub same_trans : {nx ny : ℕ} {p q r : Field} → Same nx ny p q → Same nx ny q r → Same nx ny p r
 same_trans s t = record { here = λ x y i hx hy hi. s.here x y i hx hy hi ∙ t.here x y i hx hy hi }
 
@@ -84,8 +81,12 @@ module _ (nx ny : ℕ) where
 pub held : {b : List ℕ} {n c i : ℕ} → Holds b n c → i < 9 → c + i * n < 9 * n
 held {n = n} {c = c} {i = i} h hi = cell_in n c i h.cell hi
 
+-- one, read where it stands
+pub entry_at : (b : List ℕ) (n c i : ℕ) {p : ℕ} {x : Float} → p ≡ c + i * n → x ≡ value_of (get_or b p 0) → x ≡ value_of (get_or b (c + i * n) 0)
+entry_at b n c i e is = is ∙ ap (λ (j : ℕ). value_of (get_or b j 0)) e
+
 -- the nine of them, read one after the other
-pub gathered : (b : List ℕ) (n c : ℕ) {v0 v1 v2 v3 v4 v5 v6 v7 v8 : Float}
+pub gathered_nine : (b : List ℕ) (n c : ℕ) {v0 v1 v2 v3 v4 v5 v6 v7 v8 : Float}
     → v0 ≡ value_of (get_or b (c + 0 * n) 0)
     → v1 ≡ value_of (get_or b (c + 1 * n) 0)
     → v2 ≡ value_of (get_or b (c + 2 * n) 0)
@@ -97,4 +98,4 @@ pub gathered : (b : List ℕ) (n c : ℕ) {v0 v1 v2 v3 v4 v5 v6 v7 v8 : Float}
     → v8 ≡ value_of (get_or b (c + 8 * n) 0)
     → (v0 ∷ v1 ∷ v2 ∷ v3 ∷ v4 ∷ v5 ∷ v6 ∷ v7 ∷ v8 ∷ []) ≡ cell_of b n c
 unfolding cell_of
-gathered b n c = nine_of (λ i. value_of (get_or b (c + i * n) 0))
+gathered_nine b n c = nine_of (λ i. value_of (get_or b (c + i * n) 0))

@@ -9,45 +9,33 @@ use settings::{Face, Settings};
 
 // ---- the settings, from the words of the C struct
 
+#[tactic(auto, using(number::proofs::Nan::zero_by_zero), unfolding(crate::specs::Host::face_of_kind))]
 fn face_of_kind(kind: u64, a: f64, b: f64) -> Face
     ensures { result ≡ face_of_kind kind a b }
 {
-    if kind == 0 {
-        return Face::Periodic;
+    match kind {
+        0 => Face::Periodic,
+        1 => Face::NoSlip,
+        2 => Face::MovingWall(a, b),
+        3 => Face::Symmetry,
+        4 => Face::Velocity(a, b),
+        5 => Face::Pressure(a),
+        // no kind: a density that number 5 refuses
+        _ => Face::Pressure(0.0 / 0.0),
     }
-    if kind == 1 {
-        return Face::NoSlip;
-    }
-    if kind == 2 {
-        return Face::MovingWall(a, b);
-    }
-    if kind == 3 {
-        return Face::Symmetry;
-    }
-    if kind == 4 {
-        return Face::Velocity(a, b);
-    }
-    if kind == 5 {
-        return Face::Pressure(a);
-    }
-    // no kind: a density that number 5 refuses
-    Face::Pressure(0.0 / 0.0)
 }
 
+#[tactic(auto, using(number::proofs::Nan::zero_by_zero), unfolding(crate::specs::Host::collision_of_kind))]
 fn collision_of_kind(kind: u64, rate: f64) -> Collision
     ensures { result ≡ collision_of_kind kind rate }
 {
-    if kind == 0 {
-        return Collision::Bgk;
+    match kind {
+        0 => Collision::Bgk,
+        1 => Collision::Mrt,
+        2 => Collision::Trt(rate),
+        // no kind: a rate that number 3 refuses
+        _ => Collision::Trt(0.0 / 0.0),
     }
-    if kind == 1 {
-        return Collision::Mrt;
-    }
-    if kind == 2 {
-        return Collision::Trt(rate);
-    }
-    // no kind: a rate that number 3 refuses
-    Collision::Trt(0.0 / 0.0)
 }
 
 // The face of the three words from k on.
@@ -64,6 +52,7 @@ fn collision_at(w: &[u64; 20]) -> Collision
     collision_of_kind(w[5], number::value(w[6]))
 }
 
+#[tactic(auto, unfolding(crate::specs::Host::settings_of))]
 pub fn settings_of(w: &[u64; 20]) -> Settings
     ensures { result ≡ settings_of w.now }
 {

@@ -1,3 +1,4 @@
 pub mod Tables
 pub mod Lookups
 pub mod Frames
+pub mod Results

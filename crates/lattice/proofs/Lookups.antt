@@ -14,7 +14,7 @@ use Rattle.lattice.specs.declared.Axis.TheVariants.{X, Y}
 use Rattle.lattice.specs.declared.Side.{Side}
 use Rattle.lattice.specs.declared.Side.TheVariants.{Min, Max}
 use Rattle.lattice.specs.Lattice.{directions, E}
-use Rattle.lattice.specs.Lookup.{is_row, lookup, dir_index_of, Direction, mirrored}
+use Rattle.lattice.specs.Lookup.{is_row, lookup, dir_index_of, Row, mirrored}
 use Rattle.lattice.specs.Sides.{normal, tangent}
 
 -- the lookup of a direction's components finds that direction
@@ -30,12 +30,12 @@ finds = all_nine (λ i. dir_index_of (E i X) (E i Y)) (λ i. i) finds_table
 -- what is looked up for the face on a side of an axis, with n its inward normal and t its tangent: n, t, -t, n + t and n - t; and
 -- for direction i, mirrored along the axis
 pub record Lookups (a : Axis) (s : Side) (i : ℕ) : Type 0 where
-  pub n : Direction (normal a s X) (normal a s Y)
-  pub t : Direction (tangent a X) (tangent a Y)
-  pub tm : Direction (neg_ℤ (tangent a X)) (neg_ℤ (tangent a Y))
-  pub np : Direction (normal a s X +ℤ tangent a X) (normal a s Y +ℤ tangent a Y)
-  pub nm : Direction (normal a s X -ℤ tangent a X) (normal a s Y -ℤ tangent a Y)
-  pub mirrored : Direction (mirrored a i X) (mirrored a i Y)
+  pub n : Row (normal a s X) (normal a s Y)
+  pub t : Row (tangent a X) (tangent a Y)
+  pub tm : Row (neg_ℤ (tangent a X)) (neg_ℤ (tangent a Y))
+  pub np : Row (normal a s X +ℤ tangent a X) (normal a s Y +ℤ tangent a Y)
+  pub nm : Row (normal a s X -ℤ tangent a X) (normal a s Y -ℤ tangent a Y)
+  pub mirrored : Row (mirrored a i X) (mirrored a i Y)
 
 -- the same as vectors
 abbrev asked : Axis → Side → ℕ → List (Axis → ℤ)
@@ -65,7 +65,7 @@ found_table : four (λ a s. nine (λ i. map found (asked a s i))) ≡ four (λ a
 unfolding directions lookup is_row
 found_table = refl
 
-direction : (g : Axis → ℤ) → found g ≡ itself g → Direction (g X) (g Y)
+direction : (g : Axis → ℤ) → found g ≡ itself g → Row (g X) (g Y)
 direction g e = record {
   i = dir_index_of (g X) (g Y);
   small = ltb-true _ 9 (ap (λ (f : Bool × ℤ × ℤ). f.0) e);

@@ -28,11 +28,14 @@ E i X = get_or (get_or directions i []) 0 (pos 0)
 E i Y = get_or (get_or directions i []) 1 (pos 0)
 
 -- the same as f64
+abbrev pub e : ℕ → Axis → Float
+e i a = of_int binary64 (E i a)
+
 abbrev pub ex : ℕ → Float
-ex i = of_int binary64 (E i X)
+ex i = e i X
 
 abbrev pub ey : ℕ → Float
-ey i = of_int binary64 (E i Y)
+ey i = e i Y
 
 -- ---- W: 4/9, four times 1/9, four times 1/36, each one f64 division
 

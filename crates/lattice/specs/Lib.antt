@@ -1,3 +1,4 @@
 pub mod Lattice
 pub mod Lookup
 pub mod Sides
+pub mod Rule

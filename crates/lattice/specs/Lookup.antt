@@ -24,7 +24,7 @@ abbrev pub dir_index_of : ℤ → ℤ → ℕ
 dir_index_of a b = lookup 0 8 a b
 
 -- (a, b) is a row of E: the components of a direction
-pub record Direction (a b : ℤ) : Type 0 where
+pub record Row (a b : ℤ) : Type 0 where
   pub i : ℕ
   pub small : i < 9
   pub along_x : E i X ≡ a

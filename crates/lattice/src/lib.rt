@@ -7,24 +7,28 @@
 //   7   4   8
 #![tactic(auto)]
 
-ghost use Rattle.std.specs.Prelude.{◌≡◌, ◌<◌};
+ghost use Rattle.std.specs.Prelude.{◌≡◌};
 ghost use Rattle.std.specs.Float.{binary64};
 ghost use Rattle.std.specs.Float.Ieee.{of_int};
 ghost use Rattle.number.specs.Number.{◌⊕◌, ◌⊗◌};
-ghost use Rattle.lattice.specs.Lattice as Lattice;
-ghost use Rattle.lattice.specs.Lattice.{ex, ey, basis_floats, norm_floats};
-ghost use Rattle.lattice.specs.Lookup.{Direction, dir_index_of, mirror};
+ghost use Rattle.lattice.specs.Lattice.{basis_floats, norm_floats};
 ghost use Rattle.lattice.specs.Sides as Sides;
 ghost use Rattle.lattice.specs.Sides.{normal, tangent, frame_of};
 
+mod directions;
+mod rule;
+
+pub use directions::Direction;
+pub use rule::nine;
+
 // The axes of a grid, and the two sides of each, on which its faces are.
-#[derive(Clone, Copy)]
+#[derive(Clone, Copy, Debug, PartialEq, Eq)]
 pub enum Axis {
     X,
     Y,
 }
 
-#[derive(Clone, Copy)]
+#[derive(Clone, Copy, Debug, PartialEq, Eq)]
 pub enum Side {
     Min,
     Max,
@@ -79,45 +83,6 @@ pub const M: [[f64; 9]; 9] = [
 // Each row of M with itself.
 pub const M_NORM: [f64; 9] = [9.0, 36.0, 36.0, 6.0, 12.0, 6.0, 12.0, 4.0, 4.0];
 
-// The components of direction i, whole and as f64; its weight and its opposite.
-pub fn component(i: usize, axis: Axis) -> i32
-    requires { i < 9 }
-    ensures { result ≡ Lattice.E i axis }
-{
-    match axis {
-        Axis::X => E[i][0],
-        Axis::Y => E[i][1],
-    }
-}
-
-pub fn e_x(i: usize) -> f64
-    requires { i < 9 }
-    ensures { result ≡ ex i }
-{
-    E[i][0] as f64
-}
-
-pub fn e_y(i: usize) -> f64
-    requires { i < 9 }
-    ensures { result ≡ ey i }
-{
-    E[i][1] as f64
-}
-
-pub fn weight(i: usize) -> f64
-    requires { i < 9 }
-    ensures { result ≡ Lattice.W i }
-{
-    W[i]
-}
-
-pub fn opposite(i: usize) -> usize
-    requires { i < 9 }
-    ensures { (result ≡ Lattice.OPP i) × (result < 9) }
-{
-    OPP[i]
-}
-
 // The basis and its norms, whole: a caller that loops over them copies them once.
 pub fn basis() -> [[f64; 9]; 9]
     ensures { result ≡ basis_floats }
@@ -131,35 +96,10 @@ pub fn norms() -> [f64; 9]
     M_NORM
 }
 
-// The direction whose components are (ex, ey). Nothing else is ever looked up, so there is no other answer.
-pub fn dir_index(ex: i32, ey: i32) -> usize
-    requires { Direction ex ey }
-    ensures { result ≡ dir_index_of ex ey }
-{
-    // Digits count from the last one on, and so places from the picture's lower right corner.
-    let row = (ey + 1) as usize;
-    let column = (1 - ex) as usize;
-    let place = 3 * row + column;
-    (PICTURE >> (4 * place)) & 15
-}
-
-// The direction with the component along the axis negated.
-pub fn mirror_index(i: usize, axis: Axis) -> usize
-    requires { i < 9 }
-    ensures { (result ≡ mirror axis i) × (result < 9) }
-{
-    let ex = E[i][0];
-    let ey = E[i][1];
-    match axis {
-        Axis::X => dir_index(-ex, ey),
-        Axis::Y => dir_index(ex, -ey),
-    }
-}
-
 // ---- the faces, by axis and side
 
 // The inward normal and the tangent of a face.
-#[derive(Clone, Copy)]
+#[derive(Clone, Copy, Debug, PartialEq, Eq)]
 pub struct Frame {
     pub n0: i32,
     pub n1: i32,
@@ -205,6 +145,7 @@ fn along(u: f64, v: f64, a: i32, b: i32) -> f64
 }
 
 // (u, v) along the normal of a face, and along its tangent.
+#[tactic(auto, using(crate::proofs::Frames::by_normal))]
 pub fn along_normal(axis: Axis, side: Side, u: f64, v: f64) -> f64
     ensures { result ≡ Sides.along u v (normal axis side) }
 {
@@ -212,6 +153,7 @@ pub fn along_normal(axis: Axis, side: Side, u: f64, v: f64) -> f64
     along(u, v, g.n0, g.n1)
 }
 
+#[tactic(auto, using(crate::proofs::Frames::by_tangent))]
 pub fn along_tangent(axis: Axis, side: Side, u: f64, v: f64) -> f64
     ensures { result ≡ Sides.along u v (tangent axis) }
 {

@@ -8,9 +8,12 @@ use native.Mathlib.Omega.{arith}
 use lib.Dec.{eqb}
 use lib.ListN.{length, get_or, length-append}
 use borrow.Author.Tests.{eqb-true, le-leb, not-true}
-use Rattle.lossless.specs.declared.Answer.{Answer}
-use Rattle.lossless.specs.declared.Answer.TheVariants.{Refused, Lossless, Lossy}
-use Rattle.lossless.specs.Lossless.{lossless_of}
+use Rattle.lossless.specs.Answer.{Answer}
+use Rattle.lossless.specs.Answer.{Refused, Lossless, Lossy}
+use Rattle.lossless.specs.Lossless.{Reply, reply, lossless_of}
+use Rattle.settings.specs.declared.Settings.{Settings}
+use Rattle.std.specs.Prelude.{cond, Some, None}
+use Rattle.std.proofs.lemmas.Option.{cond_some}
 use Rattle.line.specs.Line.{space, before, after, is_letter, are_letters, is_digit, are_digits, are_sides, most_bytes, readable, decimal_of, study, asked, worded, unreadable, answer_to, Form}
 use Rattle.line.proofs.Words.{before_short}
 use Rattle.line.proofs.Sides.{both, side_told}
@@ -146,6 +149,20 @@ never (Lossy x y i) e = absurd (omega (arith, ap (λ (l : List ℕ). get_or l 0 
 pub not_readable : (line : List ℕ) → readable line ≡ false → answer_to line ≡ unreadable
 unfolding answer_to
 not_readable line e = rw e
+
+-- what the code finds of a line, and what it makes of that
+pub is_answer : (line : List ℕ) {s : Settings} {r : Answer} → Some s ≡ cond (readable line) (Some (asked line)) None → reply r ≡ reply (lossless_of s)
+    → worded r ≡ answer_to line
+unfolding answer_to
+is_answer line p q =
+    let is = cond_some _ _ _ (sym p) in rw (is.0, is.1, ← ap (λ (w : Reply). w.answer) q)
+
+pub is_unreadable : (line : List ℕ) → None ≡ cond (readable line) (Some (asked line)) None → unreadable ≡ answer_to line
+is_unreadable line e = go (readable line) refl e
+  where
+    go : (t : Bool) → readable line ≡ t → None ≡ cond t (Some (asked line)) None → unreadable ≡ answer_to line
+    go true r n = absurd (cc)
+    go false r n = sym (not_readable line r)
 
 pub readable_exactly_when : (line : List ℕ) → (answer_to line ≡ unreadable) ↔ ((a b c d : ℕ) (xs ys : List ℕ) → Form line a b c d xs ys → ⊥)
 readable_exactly_when line = (

@@ -4,7 +4,5 @@ pub mod Parts
 pub mod Forms
 pub mod Question
 pub mod Decimal
-pub mod Puts
 pub mod Sizes
-pub mod Handed
 pub mod One

@@ -1,14 +1,20 @@
 -- What a readable line tells of its letters and sides.
-use mathlib.Core.Path.{◌≡◌}
-use mathlib.Core.Bool.{true, ◌&&◌}
-use mathlib.Core.List.{List}
-use Prim.Native.Nat.{ℕ, ◌≤◌}
+use mathlib.Core.Path.{◌≡◌, sym}
+use mathlib.Core.Bool.{true, false, ◌&&◌}
+use mathlib.Core.List.{List, []}
+use Prim.Native.Nat.{ℕ, ◌≤◌, ◌<◌}
 use native.Mathlib.Omega.{arith}
+use Rattle.std.specs.Prelude.{cond, Some, None}
+use Rattle.std.proofs.Math.Bool.{and-false}
+use Rattle.std.proofs.lemmas.Option.{cond_some}
 use lib.Dec.{eqb, leb}
 use lib.ListN.{length, get_or}
-use borrow.Author.Tests.{eqb-true, leb-true}
-use Rattle.line.specs.Line.{space, before, after, is_letter, are_letters, is_side, are_sides, most_bytes, readable}
-use Rattle.line.proofs.Words.{before_short}
+use borrow.Author.Tests.{eqb-true, leb-true, le-leb}
+use Rattle.settings.specs.declared.Face.{Face}
+use Rattle.settings.specs.declared.Face.TheVariants.{Periodic}
+use Rattle.lossless.specs.Lossless.{faced}
+use Rattle.line.specs.Line.{space, before, after, is_letter, are_letters, is_side, are_sides, most_bytes, readable, faces_of, decimal_of, asked}
+use Rattle.line.proofs.Words.{before_at}
 use Rattle.line.proofs.Sides.{both}
 
 pub record Readable (line : List ℕ) : Type 0 where
@@ -37,6 +43,37 @@ letters_told bs e =
     let q = both (eqb (length bs) 4) _ e in
     record { size = eqb-true (length bs) 4 q.0; each = q.1 }
 
--- a readable line has four letters
-pub four : (line : List ℕ) → Readable line → 4 ≤ length line
-four line r = omega (arith, (letters_told (before space line) r.letters).size, before_short space line)
+-- ---- a line that is told in its parts
+
+-- with nothing after the letters, it is not readable
+pub no_sides : (line : List ℕ) → after space line ≡ [] → readable line ≡ false
+unfolding readable are_sides is_side before
+no_sides line e = rw e (and-false (leb (length line) most_bytes && are_letters (before space line)))
+
+-- what its parts say is what it asks
+pub asks : (line : List ℕ) {letters sides xs ys : List ℕ} {fs : List Face} {x y : ℕ} → length line ≤ most_bytes
+    → letters ≡ before space line → sides ≡ after space line → xs ≡ before space sides → ys ≡ after space sides
+    → Some fs ≡ cond (are_letters letters) (Some (faces_of letters)) None
+    → Some x ≡ cond (is_side xs) (Some (decimal_of xs)) None
+    → Some y ≡ cond (is_side ys) (Some (decimal_of ys)) None
+    → Some (faced x y (get_or fs 0 Periodic) (get_or fs 1 Periodic) (get_or fs 2 Periodic) (get_or fs 3 Periodic)) ≡ cond (readable line) (Some (asked line)) None
+unfolding readable are_sides asked
+asks line few l s a b p q r =
+    let letters = cond_some _ _ _ (sym (rw l at p)) in
+    let first = cond_some _ _ _ (sym (rw (a, s) at q)) in
+    let second = cond_some _ _ _ (sym (rw (b, s) at r)) in
+    let size = (letters_told (before space line) letters.0).size in
+    let at : (k : ℕ) → k < 4 → get_or line k 0 ≡ get_or (before space line) k 0 = λ k h. before_at space line k (omega arith) in
+    rw (
+      le-leb (length line) most_bytes few,
+      letters.0,
+      first.0,
+      second.0,
+      ← letters.1,
+      ← first.1,
+      ← second.1,
+      at 0 (omega arith),
+      at 1 (omega arith),
+      at 2 (omega arith),
+      at 3 (omega arith),
+    )

@@ -16,10 +16,11 @@ use Rattle.settings.specs.declared.Face.TheVariants.{Periodic, NoSlip, Symmetry}
 use Rattle.settings.specs.declared.Settings.{Settings}
 use Rattle.settings.specs.Tests.{sides_bad, face_bad, faces_bad, drives, driven, lossy}
 use Rattle.settings.specs.Outcome.{answer}
-use Rattle.lossless.specs.declared.Answer.{Answer}
-use Rattle.lossless.specs.declared.Answer.TheVariants as The
+use Rattle.lossless.specs.Answer.{Answer}
+use Rattle.lossless.specs.Answer as The
 use Rattle.lossless.specs.Lossless.{lowest, lossy_at, lossless_of}
-use Rattle.line.specs.Text.{bytes, decimal_in}
+use lib.Chars.{codes}
+use Rattle.line.specs.Text.{decimal_in}
 use Rattle.line.specs.Line.{newline, first_line, most_bytes, readable, face_of_letter, decimal_of, study, worded, answer_to, reply_to, Form}
 use Rattle.line.proofs.Words.{before_take, before_ended}
 use Rattle.line.proofs.Forms.{answered, not_readable}
@@ -65,7 +66,7 @@ module _ (line : List ℕ) (a b c d : ℕ) (xs ys : List ℕ) (f : Form line a b
   -- `refused 1` exactly where number 1 applies, else `lossless` or `lossy`
   pub written : let s = study a b c d (decimal_of xs) (decimal_of ys) in
       answer_to line
-      ≡ cond (sides_bad s.nx s.ny) (bytes "refused 1\n") (cond (lossy s) (worded (lossy_at (lowest s))) (bytes "lossless\n"))
+      ≡ cond (sides_bad s.nx s.ny) (codes "refused 1\n") (cond (lossy s) (worded (lossy_at (lowest s))) (codes "lossless\n"))
   unfolding worded decimal_in
   written =
       let s = study a b c d (decimal_of xs) (decimal_of ys) in
@@ -73,7 +74,7 @@ module _ (line : List ℕ) (a b c d : ℕ) (xs ys : List ℕ) (f : Form line a b
     where
       go : (s : Settings) (t u : Bool)
           → worded (cond t (The.Refused 1) (cond u (lossy_at (lowest s)) The.Lossless))
-          ≡ cond t (bytes "refused 1\n") (cond u (worded (lossy_at (lowest s))) (bytes "lossless\n"))
+          ≡ cond t (codes "refused 1\n") (cond u (worded (lossy_at (lowest s))) (codes "lossless\n"))
       go s true u = refl
       go s false true = refl
       go s false false = refl

@@ -18,7 +18,7 @@ both true b e = (refl, e)
 both false true e = (e, refl)
 both false false e = (e, e)
 
-digit_bounds : (b : ℕ) → is_digit b ≡ true → (48 ≤ b) × (b ≤ 57)
+pub digit_bounds : (b : ℕ) → is_digit b ≡ true → (48 ≤ b) × (b ≤ 57)
 digit_bounds b e =
     let q = both (leb 48 b) (leb b 57) e in
     (leb-true 48 b q.0, leb-true b 57 q.1)
@@ -35,79 +35,56 @@ side_told s e =
     let p = both (leb 1 (length s)) (leb (length s) most_digits) q.0 in
     record { some = leb-true 1 (length s) p.0; few = leb-true (length s) most_digits p.1; digits = q.1 }
 
--- ---- whether all are digits, of which k are passed
-
-pub record Digits (s : List ℕ) (k : ℕ) : Type 0 where
-  pub inside : k ≤ length s
-  pub same : are_digits s ≡ are_digits (drop k s)
-
-pub digits_none : (s : List ℕ) → Digits s 0
-digits_none s = record { inside = omega arith; same = refl }
-
-pub digits_more : (s : List ℕ) (k : ℕ) → Digits s k → k < length s → is_digit (get_or s k 0) ≡ true → Digits s (k + 1)
-unfolding are_digits
-digits_more s k p h e = record { inside = omega arith; same = p.same ∙ rw (drop-cons s k 0 h, e, add-one) }
-
-pub no_digit : (s : List ℕ) (k : ℕ) → Digits s k → k < length s → is_digit (get_or s k 0) ≡ false → are_digits s ≡ false
-unfolding are_digits
-no_digit s k p h e = p.same ∙ rw (drop-cons s k 0 h, e)
-
-pub digits_all : (s : List ℕ) (k : ℕ) → Digits s k → length s ≤ k → are_digits s ≡ true
-unfolding are_digits
-digits_all s k p h = p.same ∙ rw (drop_of_length-le s h)
-
--- ---- what number they say, of which the first k say n
+-- ---- digits passed one by one: k of them say n, and whether all are digits is left to the others
 
 pub record Said (s : List ℕ) (n k : ℕ) : Type 0 where
-  pub few : length s ≤ most_digits
-  pub inside : k ≤ length s
   pub same : decimal_of s ≡ number_after n (drop k s)
   pub small : n < 10 ^ k
-  pub digits : are_digits (drop k s) ≡ true
+  pub digits : are_digits s ≡ are_digits (drop k s)
 
-pub said_none : (s : List ℕ) → is_side s ≡ true → Said s 0 0
-said_none s e =
-    let side = side_told s e in
-    record { few = side.few; inside = omega arith; same = refl; small = omega arith; digits = side.digits }
+pub said_none : (s : List ℕ) → Said s 0 0
+said_none s = record { same = refl; small = omega arith; digits = refl }
 
 module _ (s : List ℕ) (n k : ℕ) (p : Said s n k) where
-  -- the next is a digit, and so are those after it
-  next : k < length s → (is_digit (get_or s k 0) ≡ true) × (are_digits (drop (k + 1) s) ≡ true)
-  unfolding are_digits
-  next h = both (is_digit (get_or s k 0)) (are_digits (drop (k + 1) s)) (rw add-one (rw (drop-cons s k 0 h) at p.digits))
+  pub said_small : k ≤ most_digits → n < 10 ^ most_digits
+  said_small l =
+      let ten : 0 < 10 = omega arith in omega (arith, p.small, pow-le-pow_right {n = 10} ten l)
 
-  pub said_digit : k < length s → (48 ≤ get_or s k 0) × (get_or s k 0 ≤ 57)
-  said_digit h = digit_bounds (get_or s k 0) (next h).0
-
-  pub said_small : n < 10 ^ most_digits
-  said_small =
-      let ten : 0 < 10 = omega arith in
-      let l : k ≤ most_digits = omega (arith, p.few) in
-      omega (arith, p.small, pow-le-pow_right {n = 10} ten l)
-
-  pub said_more : k < length s → Said s (n * 10 + (get_or s k 0 - 48)) (k + 1)
-  unfolding number_after
-  said_more h = record {
-    few = p.few;
-    inside = omega arith;
+  pub said_more : (d : ℕ) → k < length s → is_digit (get_or s k 0) ≡ true → d ≡ get_or s k 0 - 48 → Said s (n * 10 + d) (k + 1)
+  unfolding number_after are_digits
+  said_more d h e is = rw is (record {
     same = p.same ∙ rw (drop-cons s k 0 h, add-one);
-    small = rw (add-one k, pow-suc 10 k) (omega (arith, mul-le-mul_right 10 p.small, said_digit h));
-    digits = (next h).1;
-  }
+    small = rw (add-one k, pow-suc 10 k) (omega (arith, mul-le-mul_right 10 p.small, digit_bounds (get_or s k 0) e));
+    digits = p.digits ∙ rw (drop-cons s k 0 h, e, add-one);
+  })
 
-  pub said_all : length s ≤ k → n ≡ decimal_of s
-  unfolding number_after
-  said_all h = sym (p.same ∙ rw (drop_of_length-le s h))
+  pub no_digit : k < length s → is_digit (get_or s k 0) ≡ false → are_digits s ≡ false
+  unfolding are_digits
+  no_digit h e = p.digits ∙ rw (drop-cons s k 0 h, e)
+
+  pub said_all : length s ≤ k → (n ≡ decimal_of s) × (are_digits s ≡ true)
+  unfolding number_after are_digits
+  said_all h = let e = drop_of_length-le s h in (sym (p.same ∙ rw e), p.digits ∙ rw e)
+
+-- what the loop over a side's digits cites
+pub ruleset side_steps = (said_none, said_more, said_small, no_digit, said_all)
 
 -- ---- the number of a side
 
-side_said : (s : List ℕ) → is_side s ≡ true → (k : ℕ) → k ≤ length s → (n : ℕ) × Said s n k
-side_said s e zero h = (0, said_none s e)
+digit_at : (s : List ℕ) (n k : ℕ) → Said s n k → k < length s → are_digits s ≡ true → is_digit (get_or s k 0) ≡ true
+unfolding are_digits
+digit_at s n k p h e =
+    let left : are_digits (drop k s) ≡ true = sym p.digits ∙ e in
+    (both (is_digit (get_or s k 0)) (are_digits (drop (suc k) s)) (rw (drop-cons s k 0 h) at left)).0
+
+side_said : (s : List ℕ) → are_digits s ≡ true → (k : ℕ) → k ≤ length s → (n : ℕ) × Said s n k
+side_said s e zero h = (0, said_none s)
 side_said s e (suc k) h =
     let p = side_said s e k (omega arith) in
-    (p.0 * 10 + (get_or s k 0 - 48), rw add-one at (said_more s p.0 k p.1 (omega arith)))
+    (p.0 * 10 + (get_or s k 0 - 48), rw add-one at (said_more s p.0 k p.1 _ (omega arith) (digit_at s p.0 k p.1 (omega arith) e) refl))
 
 pub side_small : (s : List ℕ) → is_side s ≡ true → decimal_of s < 10 ^ most_digits
 side_small s e =
-    let p = side_said s e (length s) (le_refl (length s)) in
-    rw (← said_all s p.0 (length s) p.1 (le_refl (length s))) (said_small s p.0 (length s) p.1)
+    let side = side_told s e in
+    let p = side_said s side.digits (length s) (le_refl (length s)) in
+    rw (← (said_all s p.0 (length s) p.1 (le_refl (length s))).0) (said_small s p.0 (length s) p.1 side.few)

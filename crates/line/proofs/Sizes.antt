@@ -8,21 +8,18 @@ use lib.ListN.{length, length-append}
 use Rattle.settings.specs.declared.Settings.{Settings}
 use Rattle.settings.specs.Tests.{sides_bad, driven, lossy}
 use Rattle.settings.proofs.Laws.{sides_ok}
-use Rattle.lossless.specs.declared.Answer.TheVariants.{Refused, Lossy}
+use Rattle.lossless.specs.Answer.{Lossy}
 use Rattle.lossless.specs.Lossless.{lowest, lossy_at}
 use Rattle.lossless.proofs.Whole.{is_lowest}
-use Rattle.line.specs.Text.{bytes, room}
+use lib.Chars.{codes}
+use Rattle.line.specs.Text.{room}
 use Rattle.line.specs.Line.{most_digits, readable, spaced, worded, answer_to}
 use Rattle.line.proofs.Sides.{side_small}
 use Rattle.line.proofs.Decimal.{side_digits}
 use Rattle.line.proofs.Forms.{form_of, not_readable}
 use Rattle.line.proofs.Question.{not_driven, written}
 
-pub refused_size : (n : ℕ) → length (worded (Refused n)) ≡ length (spaced n) + 8
-unfolding worded
-refused_size n = simp length-append (omega arith)
-
-pub lossy_size : (x y i : ℕ) → length (worded (Lossy x y i)) ≡ length (spaced x) + length (spaced y) + length (spaced i) + 6
+lossy_size : (x y i : ℕ) → length (worded (Lossy x y i)) ≡ length (spaced x) + length (spaced y) + length (spaced i) + 6
 unfolding worded
 lossy_size x y i = simp length-append (omega arith)
 
@@ -42,7 +39,7 @@ module _ (s : Settings) (calm : driven s ≡ false) (x : s.nx < 10 ^ most_digits
       )
 
   by_case : (t u : Bool) → sides_bad s.nx s.ny ≡ t → lossy s ≡ u
-      → length (cond t (bytes "refused 1\n") (cond u (worded (lossy_at (lowest s))) (bytes "lossless\n"))) ≤ room
+      → length (cond t (codes "refused 1\n") (cond u (worded (lossy_at (lowest s))) (codes "lossless\n"))) ≤ room
   by_case true u e l = omega arith
   by_case false true e l = lossy_short e l
   by_case false false e l = omega arith

@@ -1,80 +1,81 @@
 -- The part of a list before its first mark and the part after it: what a scan byte by byte finds, and where each stands in the list.
 use mathlib.Core.Path.{◌≡◌, refl, sym, ap, ◌∙◌}
-use mathlib.Core.Bool.{Bool, true, false}
-use mathlib.Core.List.{List, [], ◌∷◌, ◌++◌, append-nil}
-use Prim.Native.Nat.{ℕ, zero, suc, ◌+◌, ◌-◌, ◌≤◌, ◌<◌}
+use mathlib.Core.Bool.{Bool, true, false, cond}
+use mathlib.Core.List.{List, [], ◌∷◌, ◌++◌}
+use Prim.Native.Nat.{ℕ, zero, suc, ◌+◌, ◌-◌, ◌≤◌, ◌<◌, min}
 use native.Mathlib.Numerals.{add-one}
 use native.Mathlib.Omega.{arith}
 use lib.Dec.{eqb}
-use lib.ListN.{length, get_or, take, drop, drop_of_length-le, length-drop}
-use lib.Seq.{drop-cons, take-suc, append_snoc, length-take-le, take_all}
-use borrow.Author.Tests.{eq-eqb, ne_eqb}
+use lib.ListN.{length, get_or, take, drop, drop_of_length-le}
+use lib.Seq.{take_all}
+use Rattle.std.specs.Prelude.{Some, None, position, nat_lt}
+use Rattle.std.specs.List.{position_or_len}
+use Rattle.std.proofs.lemmas.Option.{cond_some}
+use Rattle.std.proofs.lemmas.List.{length-take, get_or-take}
+use Rattle.std.proofs.lemmas.Slice.{between_to_end}
+use borrow.Author.Tests.{eq-eqb, ltb-true, ltb-false}
 use Rattle.line.specs.Line.{before, after}
 
--- ---- parts of a slice
-
--- a part up to an end has as many bytes as that says
-pub up_to : (s : List ℕ) (n : ℕ) → n ≤ length s → n ≡ length (take n s)
-up_to s n h = sym (length-take-le n s h)
-
--- a part without an end goes on to the end
-pub from_on : (s : List ℕ) (at : ℕ) → take (length s - at) (drop at s) ≡ drop at s
-from_on s at = take_all (length s - at) (drop at s) (omega (arith, length-drop at s))
-
--- a scan that has passed k bytes, none of them the mark
-pub record Passed (mark : ℕ) (s : List ℕ) (k : ℕ) : Type 0 where
-  pub inside : k ≤ length s
-  pub same : before mark s ≡ take k s ++ before mark (drop k s)
-
 module _ (mark : ℕ) where
-  pub passed_none : (s : List ℕ) → Passed mark s 0
-  passed_none s = record { inside = omega arith; same = refl }
+  -- ---- where the first mark stands
 
-  pub passed_more : (s : List ℕ) (k : ℕ) → Passed mark s k → k < length s → (get_or s k 0 ≡ mark → ⊥) → Passed mark s (k + 1)
+  abbrev place : List ℕ → ℕ
+  place s = position_or_len (λ b. eqb b mark) s
+
+  next : (n : ℕ) → suc n ≡ 1 + n
+  next n = omega arith
+
+  before_place : (s : List ℕ) → before mark s ≡ take (place s) s
   unfolding before
-  passed_more s k p h e = record {
-    inside = omega arith;
-    same =
-        p.same
-        ∙ rw (drop-cons s k 0 h, ne_eqb _ _ e, add-one, take-suc s k 0 h) (sym (append_snoc (take k s) (get_or s k 0) (before mark (drop (suc k) s))));
-  }
-
-  -- ---- where it ends
-
-  pub at_mark : (s : List ℕ) (k : ℕ) → Passed mark s k → k < length s → get_or s k 0 ≡ mark → take k s ≡ before mark s
-  unfolding before
-  at_mark s k p h e = sym (p.same ∙ rw (drop-cons s k 0 h, eq-eqb _ _ e) (append-nil (take k s)))
-
-  pub at_end : (s : List ℕ) (k : ℕ) → Passed mark s k → length s ≤ k → take k s ≡ before mark s
-  unfolding before
-  at_end s k p h = sym (p.same ∙ rw (drop_of_length-le s h) (append-nil (take k s)))
-
-  -- ---- what follows
-
-  after_before : (s : List ℕ) → after mark s ≡ drop (suc (length (before mark s))) s
-  unfolding before after
-  after_before [] = refl
-  after_before (b ∷ rest) = go (eqb b mark) refl (after_before rest)
+  before_place [] = refl
+  before_place (b ∷ rest) = go (eqb b mark) refl (before_place rest)
     where
-      go : (t : Bool) → eqb b mark ≡ t → after mark rest ≡ drop (suc (length (before mark rest))) rest
-          → after mark (b ∷ rest) ≡ drop (suc (length (before mark (b ∷ rest)))) (b ∷ rest)
+      go : (t : Bool) → eqb b mark ≡ t → before mark rest ≡ take (place rest) rest → before mark (b ∷ rest) ≡ take (place (b ∷ rest)) (b ∷ rest)
       go true e more = rw e
-      go false e more = rw e more
+      go false e more = rw e (ap (λ (l : List ℕ). b ∷ l) more ∙ ap (λ (n : ℕ). take n (b ∷ rest)) (next (place rest)))
 
-  pub after_mark : (s : List ℕ) (n : ℕ) → n ≤ length s → take n s ≡ before mark s → drop (n + 1) s ≡ after mark s
-  after_mark s n h e = rw (after_before s, ← e, length-take-le n s h, add-one)
+  after_place : (s : List ℕ) → after mark s ≡ drop (suc (place s)) s
+  unfolding after
+  after_place [] = refl
+  after_place (b ∷ rest) = go (eqb b mark) refl (after_place rest)
+    where
+      go : (t : Bool) → eqb b mark ≡ t → after mark rest ≡ drop (suc (place rest)) rest → after mark (b ∷ rest) ≡ drop (suc (place (b ∷ rest))) (b ∷ rest)
+      go true e more = rw e
+      go false e more = rw e (more ∙ ap (λ (n : ℕ). drop n rest) (next (place rest)))
 
-  pub after_end : (s : List ℕ) (n : ℕ) → n ≤ length s → take n s ≡ before mark s → length s ≤ n → drop n s ≡ after mark s
-  after_end s n h e l = rw (drop_of_length-le s l, after_before s, ← e, length-take-le n s h) (sym (drop_of_length-le s {i = suc n} (omega arith)))
+  placed : (s : List ℕ) (k : ℕ) → position (λ b. eqb b mark) s ≡ Some k → (place s ≡ k) × (k < length s)
+  placed s k e =
+      let is = cond_some (nat_lt (place s) (length s)) (place s) k e in
+      (is.1, omega (arith, ltb-true (place s) (length s) is.0, is.1))
+
+  -- cut there, a list is in its two parts
+  pub first_part : (s : List ℕ) (k : ℕ) → position (λ b. eqb b mark) s ≡ Some k → take k s ≡ before mark s
+  first_part s k e = sym (before_place s ∙ ap (λ (n : ℕ). take n s) (placed s k e).0)
+
+  pub second_part : (s : List ℕ) (k : ℕ) → position (λ b. eqb b mark) s ≡ Some k → take (length s - (k + 1)) (drop (k + 1) s) ≡ after mark s
+  second_part s k e =
+      let is = placed s k e in
+      between_to_end s (k + 1) (length s) (omega arith) ∙ rw add-one (sym (after_place s ∙ ap (λ (n : ℕ). drop (suc n) s) is.0))
+
+  -- and where there is no mark, all of it stands before
+  pub unparted : (s : List ℕ) → position (λ b. eqb b mark) s ≡ None → (before mark s ≡ s) × (after mark s ≡ [])
+  unparted s e = go (nat_lt (place s) (length s)) refl e
+    where
+      go : (t : Bool) → nat_lt (place s) (length s) ≡ t → cond t (Some (place s)) None ≡ None → (before mark s ≡ s) × (after mark s ≡ [])
+      go true q n = absurd (cc)
+      go false q n =
+          let past : length s ≤ place s = ltb-false (place s) (length s) q in
+          (before_place s ∙ take_all (place s) s past, after_place s ∙ drop_of_length-le s {i = suc (place s)} (omega arith))
+
+  before_length : (s : List ℕ) → length (before mark s) ≡ min (place s) (length s)
+  before_length s = ap length (before_place s) ∙ length-take (place s) s
 
   pub before_short : (s : List ℕ) → length (before mark s) ≤ length s
-  unfolding before
-  before_short [] = omega arith
-  before_short (b ∷ rest) = go (eqb b mark) refl (before_short rest)
-    where
-      go : (t : Bool) → eqb b mark ≡ t → length (before mark rest) ≤ length rest → length (before mark (b ∷ rest)) ≤ length (b ∷ rest)
-      go true e more = rw e (omega arith)
-      go false e more = rw e (omega arith)
+  before_short s = omega (arith, before_length s)
+
+  -- a byte before the mark stands where it stands in the list
+  pub before_at : (s : List ℕ) (k : ℕ) → k < length (before mark s) → get_or s k 0 ≡ get_or (before mark s) k 0
+  before_at s k h = rw (before_place s) (sym (get_or-take (place s) s k 0 (omega (arith, before_length s))))
 
   -- ---- parts of an input
 

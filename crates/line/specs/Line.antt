@@ -1,13 +1,13 @@
 -- Which lines are readable, what each asks, and the bytes that are written for it.
-use Rattle.std.specs.Prelude.{◌≡◌, Bool, true, cond, ◌&&◌, ◌||◌, List, [], ◌∷◌, ◌++◌, ℕ, ◌+◌, ◌*◌, ◌-◌, eqb, leb, length, get_or}
+use Rattle.std.specs.Prelude.{◌≡◌, Bool, true, cond, ◌&&◌, ◌||◌, List, [], ◌∷◌, ◌++◌, ℕ, ◌+◌, ◌*◌, ◌-◌, eqb, leb, length, get_or, codes}
 use Prim.Native.Char.{code}
 use Rattle.settings.specs.declared.Face.{Face}
 use Rattle.settings.specs.declared.Face.TheVariants.{Periodic, NoSlip, Symmetry}
 use Rattle.settings.specs.declared.Settings.{Settings}
-use Rattle.lossless.specs.declared.Answer.{Answer}
-use Rattle.lossless.specs.declared.Answer.TheVariants.{Refused, Lossless, Lossy}
+use Rattle.lossless.specs.Answer.{Answer}
+use Rattle.lossless.specs.Answer.{Refused, Lossless, Lossy}
 use Rattle.lossless.specs.Lossless.{faced, lossless_of}
-use Rattle.line.specs.Text.{bytes, decimal}
+use Rattle.line.specs.Text.{decimal}
 
 -- what stands before the first mark, and what stands after it
 unfoldable pub before : ℕ → List ℕ → List ℕ
@@ -69,6 +69,12 @@ readable line = leb (length line) most_bytes && are_letters (before space line) 
 unfoldable pub face_of_letter : ℕ → Face
 face_of_letter letter = cond (eqb letter (code "P")) Periodic (cond (eqb letter (code "N")) NoSlip Symmetry)
 
+-- the faces that four letters name
+abbrev pub faces_of : List ℕ → List Face
+faces_of bs =
+    face_of_letter (get_or bs 0 0) ∷ face_of_letter (get_or bs 1 0) ∷ face_of_letter (get_or bs 2 0)
+    ∷ face_of_letter (get_or bs 3 0) ∷ []
+
 -- the number that the digits bs say after those that say n
 unfoldable pub number_after : ℕ → List ℕ → ℕ
 number_after n [] = n
@@ -94,13 +100,13 @@ abbrev pub spaced : ℕ → List ℕ
 spaced n = space ∷ decimal n
 
 unfoldable pub worded : Answer → List ℕ
-worded (Refused number) = bytes "refused" ++ spaced number ++ bytes "\n"
-worded Lossless = bytes "lossless\n"
-worded (Lossy x y i) = bytes "lossy" ++ spaced x ++ spaced y ++ spaced i ++ bytes "\n"
+worded (Refused number) = codes "refused" ++ spaced number ++ codes "\n"
+worded Lossless = codes "lossless\n"
+worded (Lossy x y i) = codes "lossy" ++ spaced x ++ spaced y ++ spaced i ++ codes "\n"
 
 -- a line of any other form, or one that is too long
 abbrev pub unreadable : List ℕ
-unreadable = bytes "unreadable\n"
+unreadable = codes "unreadable\n"
 
 unfoldable pub answer_to : List ℕ → List ℕ
 answer_to line = cond (readable line) (worded (lossless_of (asked line))) unreadable

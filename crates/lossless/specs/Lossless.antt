@@ -1,5 +1,5 @@
 -- Which faces lose nothing, the lowest entry that is lost, and the reverse; then the outcomes of the two operations.
-use Rattle.std.specs.Prelude.{◌≡◌, Bool, not, cond, ◌&&◌, List, [], ◌∷◌, ℕ, ◌-◌, ◌*◌, ◌^◌, ◌<◌, length, get_or}
+use Rattle.std.specs.Prelude.{◌≡◌, Result, Ok, Err, Bool, not, cond, ◌&&◌, List, [], ◌∷◌, ℕ, ◌-◌, ◌*◌, ◌^◌, ◌<◌, length, get_or}
 use Rattle.number.specs.Number.{c0}
 use Rattle.cell.specs.declared.Collision.TheVariants.{Bgk}
 use Rattle.grid.specs.Grid.{Field, field_of, buffer_of}
@@ -10,8 +10,12 @@ use Rattle.settings.specs.Refusals.{refusal, lossless, reverse}
 use Rattle.settings.specs.Outcome.{answer, Written, written}
 use Rattle.streaming.specs.Streaming.{next_buffer}
 use Rattle.streaming.specs.Source.{Entry, entry, On, index_of, held, target}
-use Rattle.lossless.specs.declared.Answer.{Answer}
-use Rattle.lossless.specs.declared.Answer.TheVariants as The
+use Rattle.settings.specs.declared.refused.Refusal.{Refusal}
+use Rattle.settings.specs.Refused.{number}
+use Rattle.lossless.specs.Answer.{Answer}
+use Rattle.lossless.specs.Answer as The
+use Rattle.lossless.specs.declared.Answer as Code
+use Rattle.lossless.specs.declared.Answer.TheVariants as Variant
 
 -- ---- THE QUESTION: no two different post-collision buffers give the same next buffer
 
@@ -97,6 +101,12 @@ pub record Reply : Type 0 where
 
 abbrev pub reply : Answer → Reply
 reply a = record { answer = a; number = number_of a; values = values_of a }
+
+-- the answer that the code gives
+abbrev pub answer_of : Result Code.Answer Refusal → Answer
+answer_of (Ok Variant.Lossless) = The.Lossless
+answer_of (Ok (Variant.Lossy x y i)) = The.Lossy x y i
+answer_of (Err why) = The.Refused (number why)
 
 -- the answer to the lossless question
 abbrev pub lossy_at : Entry → Answer

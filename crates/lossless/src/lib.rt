@@ -3,15 +3,16 @@
 
 ghost use Rattle.std.specs.Prelude.{◌≡◌, ◌<◌};
 ghost use Rattle.lossless.specs.Lossless as Lossless;
-ghost use Rattle.lossless.specs.Lossless.{reply, lossy_at, lossless_of, reversed_of};
+ghost use Rattle.lossless.specs.Lossless.{reply, answer_of, lossy_at, lossless_of, reversed_of};
 ghost use Rattle.settings.specs.Outcome.{outcome};
+ghost use Rattle.settings.specs.Refused.{number_of};
 
-use settings::{Face, Settings};
+use settings::{Face, Refusal, Settings};
+use streaming::Way;
 
 // What the lossless question answers. A lossy answer names the lowest entry that is lost, by x, y and direction.
-#[derive(Clone, Copy)]
+#[derive(Clone, Copy, Debug, PartialEq, Eq)]
 pub enum Answer {
-    Refused(u32),
     Lossless,
     Lossy(usize, usize, usize),
 }
@@ -20,59 +21,49 @@ pub enum Answer {
 fn strays(a: Face, b: Face) -> bool
     ensures { result ≡ Lossless.strays a b }
 {
-    !settings::is_periodic(a) & settings::is_periodic(b)
+    !a.is_periodic() && b.is_periodic()
 }
 
 // The lowest entry that lossy faces lose. Closed, so that it costs the same on every grid.
+#[tactic(auto, unfolding(crate::specs::Lossless::lowest))]
 fn lowest(s: Settings) -> Answer
     requires { (0 < s.nx) × (0 < s.ny) }
-    ensures { result ≡ lossy_at (Lossless.lowest s) }
+    ensures { answer_of (Ok result) ≡ lossy_at (Lossless.lowest s) }
 {
-    let x_min = s.x_min;
-    let x_max = s.x_max;
-    let y_min = s.y_min;
-    let y_max = s.y_max;
-    if strays(x_min, x_max) {
-        return Answer::Lossy(s.nx - 1, 0, 1);
+    if strays(s.x_min, s.x_max) {
+        Answer::Lossy(s.nx - 1, 0, 1)
+    } else if strays(s.y_min, s.y_max) {
+        Answer::Lossy(0, s.ny - 1, 2)
+    } else if strays(s.x_max, s.x_min) {
+        Answer::Lossy(0, 0, 3)
+    } else if strays(s.y_max, s.y_min) {
+        Answer::Lossy(0, 0, 4)
+    } else if s.x_max.is_symmetry() {
+        Answer::Lossy(s.nx - 1, 0, 5)
+    } else {
+        Answer::Lossy(0, 0, 6)
     }
-    if strays(y_min, y_max) {
-        return Answer::Lossy(0, s.ny - 1, 2);
-    }
-    if strays(x_max, x_min) {
-        return Answer::Lossy(0, 0, 3);
-    }
-    if strays(y_max, y_min) {
-        return Answer::Lossy(0, 0, 4);
-    }
-    if settings::is_symmetry(x_max) {
-        return Answer::Lossy(s.nx - 1, 0, 5);
-    }
-    Answer::Lossy(0, 0, 6)
 }
 
 // Whether no two different post-collision buffers give the same next buffer; and where they do, the lowest entry that is lost.
-pub fn lossless(s: Settings) -> Answer
-    ensures { reply result ≡ reply (lossless_of s) }
+#[tactic(auto, using(crate::proofs::Outcomes::answering), unfolding(crate::specs::Lossless::lossless_of, settings::specs::Outcome::answer))]
+pub fn lossless(s: Settings) -> Result<Answer, Refusal>
+    ensures { reply (answer_of result) ≡ reply (lossless_of s) }
 {
-    let number = settings::lossless_refusal(s);
-    if number != 0 {
-        return Answer::Refused(number);
+    settings::check_lossless(s)?;
+    if s.lossy() {
+        return Ok(lowest(s));
     }
-    if settings::lossy(s) {
-        return lowest(s);
-    }
-    Answer::Lossless
+    Ok(Answer::Lossless)
 }
 
 // Leaves in post the one post-collision buffer from which streaming with these faces gives f.
-pub fn reverse(s: Settings, f: &[u64], post: &mut [u64]) -> u32
-    ensures { outcome result post.new ≡ reversed_of s f.now post.old }
+#[tactic(auto, using(crate::proofs::Outcomes::reversing), unfolding(settings::specs::Outcome::answer))]
+pub fn reverse(s: Settings, f: &[u64], post: &mut [u64]) -> Result<(), Refusal>
+    ensures { outcome (number_of result) post.new ≡ reversed_of s f.now post.old }
 {
-    let number = settings::reverse_refusal(s, f.len(), post.len());
-    if number != 0 {
-        return number;
-    }
+    settings::check_reverse(s, f.len(), post.len())?;
     // the same carrying, with the travel turned round
-    streaming::carry(s, true, f, post);
-    0
+    Way { s, back: true }.carry(f, post);
+    Ok(())
 }

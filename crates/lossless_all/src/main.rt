@@ -1,19 +1,23 @@
 // The lossless question against counting, and the reverse against streaming: all 81 settings of Periodic, NoSlip and Symmetry faces on all grids with sides from 1 to 5.
 #![tactic(auto)]
 
+ghost use Rattle.std.specs.Prelude.{◌≤◌};
+
 use cell::Collision;
 use lossless::Answer;
-use settings::{Face, Settings};
+use settings::{Face, Refusal, Settings};
 use std::io;
 
-fn face(k: u64) -> Face {
-    if k == 0 {
-        return Face::Periodic;
+const SIDE: usize = 5;
+
+const MOST: usize = 9 * SIDE * SIDE;
+
+fn face(digit: u64) -> Face {
+    match digit {
+        0 => Face::Periodic,
+        1 => Face::NoSlip,
+        _ => Face::Symmetry,
     }
-    if k == 1 {
-        return Face::NoSlip;
-    }
-    Face::Symmetry
 }
 
 // The faces are the digits of q to the base 3.
@@ -48,66 +52,35 @@ fn numbered(k: usize) -> u64 {
 }
 
 fn number_all(a: &mut [u64]) {
-    let mut k = 0;
-    while k < a.len() {
-        a[k] = numbered(k);
-        k += 1;
+    for (k, v) in a.iter_mut().enumerate() {
+        *v = numbered(k);
     }
 }
 
 fn all_numbered(a: &[u64]) -> bool {
-    let mut k = 0;
-    while k < a.len() {
-        if a[k] != numbered(k) {
-            return false;
-        }
-        k += 1;
-    }
-    true
-}
-
-fn clear(a: &mut [u64]) {
-    let mut k = 0;
-    while k < a.len() {
-        a[k] = 0;
-        k += 1;
-    }
-}
-
-fn mark_one(seen: &mut [u64], j: usize) {
-    if j < seen.len() {
-        seen[j] = 1;
-    }
+    a.iter().enumerate().all(|(k, v)| *v == numbered(k))
 }
 
 // Marks the index of the post-collision entry that each entry of f is a copy of.
 fn mark(f: &[u64], seen: &mut [u64]) {
-    clear(seen);
-    let mut k = 0;
-    while k < f.len() {
-        mark_one(seen, (f[k] % 4096) as usize);
-        k += 1;
+    seen.fill(0);
+    for v in f {
+        if let Some(mark) = seen.get_mut((*v % 4096) as usize) {
+            *mark = 1;
+        }
     }
 }
 
 // The lowest index that is not marked, or the length.
 fn lowest_unseen(seen: &[u64]) -> usize {
-    let mut k = 0;
-    while k < seen.len() {
-        if seen[k] == 0 {
-            return k;
-        }
-        k += 1;
-    }
-    k
+    seen.iter()
+        .position(|mark| *mark == 0)
+        .unwrap_or(seen.len())
 }
 
 // Whether the index is that of (x, y, i).
 fn is_entry(nx: usize, ny: usize, low: usize, x: usize, y: usize, i: usize) -> bool {
-    if nx == 0 {
-        return false;
-    }
-    if ny == 0 {
+    if (nx == 0) | (ny == 0) {
         return false;
     }
     (low % nx == x) & (low / nx % ny == y) & (low / nx / ny == i)
@@ -116,91 +89,61 @@ fn is_entry(nx: usize, ny: usize, low: usize, x: usize, y: usize, i: usize) -> b
 // Whether the answer and the reverse are right, for what streaming made of the numbered buffer.
 fn right(s: Settings, low: usize, f: &[u64], post: &mut [u64]) -> bool {
     let whole = low == f.len();
-    clear(post);
-    let number = lossless::reverse(s, f, post);
-    let answer = lossless::lossless(s);
-    match answer {
-        Answer::Refused(_) => false,
-        Answer::Lossless => whole & (number == 0) & all_numbered(post),
-        Answer::Lossy(x, y, i) => is_entry(s.nx, s.ny, low, x, y, i) & !whole & (number == 8),
+    post.fill(0);
+    let reversed = lossless::reverse(s, f, post);
+    match lossless::lossless(s) {
+        Err(_) => false,
+        Ok(Answer::Lossless) => whole & reversed.is_ok() & all_numbered(post),
+        Ok(Answer::Lossy(x, y, i)) => {
+            is_entry(s.nx, s.ny, low, x, y, i) & !whole & (reversed == Err(Refusal::Lossy))
+        }
     }
 }
 
-// 0 where the case is right, and else 1.
-fn one(s: Settings, post: &mut [u64], f: &mut [u64], seen: &mut [u64]) -> u64 {
+// Whether the case is right.
+fn one(s: Settings, post: &mut [u64], f: &mut [u64], seen: &mut [u64]) -> bool {
     number_all(post);
-    streaming::stream_with_faces(s, post, f);
+    let streamed = streaming::stream_with_faces(s, post, f).is_ok();
     mark(f, seen);
     let low = lowest_unseen(seen);
-    if right(s, low, f, post) { 0 } else { 1 }
+    streamed & right(s, low, f, post)
 }
 
 // How many of the 81 settings are wrong on a grid.
 fn wrong_on(nx: usize, ny: usize, post: &mut [u64], f: &mut [u64], seen: &mut [u64]) -> u64 {
-    let mut wrong = 0;
+    let mut wrong: u64 = 0;
     for q in 0..81 {
-        wrong = std::num::wrapping_add_u64(wrong, one(settings_of(nx, ny, q), post, f, seen));
+        if !one(settings_of(nx, ny, q), post, f, seen) {
+            wrong += 1;
+        }
     }
     wrong
 }
 
-fn show(
+// The grids of a width, on parts of buffers that have nine entries for each cell of the largest.
+fn of_width(
     rt: &impl Print,
     nx: usize,
-    ny: usize,
-    post: &mut [u64],
-    f: &mut [u64],
-    seen: &mut [u64],
-) -> io::Result<()> {
-    let wrong = wrong_on(nx, ny, post, f, seen);
-    println!(rt; "{nx} by {ny}: {wrong} of 81 wrong")
-}
-
-// The grids of each width, with buffers of nine entries a cell.
-fn of_width_one(rt: &impl Print) -> io::Result<()> {
-    show(rt, 1, 1, &mut [0; 9], &mut [0; 9], &mut [0; 9])?;
-    show(rt, 1, 2, &mut [0; 18], &mut [0; 18], &mut [0; 18])?;
-    show(rt, 1, 3, &mut [0; 27], &mut [0; 27], &mut [0; 27])?;
-    show(rt, 1, 4, &mut [0; 36], &mut [0; 36], &mut [0; 36])?;
-    show(rt, 1, 5, &mut [0; 45], &mut [0; 45], &mut [0; 45])
-}
-
-fn of_width_two(rt: &impl Print) -> io::Result<()> {
-    show(rt, 2, 1, &mut [0; 18], &mut [0; 18], &mut [0; 18])?;
-    show(rt, 2, 2, &mut [0; 36], &mut [0; 36], &mut [0; 36])?;
-    show(rt, 2, 3, &mut [0; 54], &mut [0; 54], &mut [0; 54])?;
-    show(rt, 2, 4, &mut [0; 72], &mut [0; 72], &mut [0; 72])?;
-    show(rt, 2, 5, &mut [0; 90], &mut [0; 90], &mut [0; 90])
-}
-
-fn of_width_three(rt: &impl Print) -> io::Result<()> {
-    show(rt, 3, 1, &mut [0; 27], &mut [0; 27], &mut [0; 27])?;
-    show(rt, 3, 2, &mut [0; 54], &mut [0; 54], &mut [0; 54])?;
-    show(rt, 3, 3, &mut [0; 81], &mut [0; 81], &mut [0; 81])?;
-    show(rt, 3, 4, &mut [0; 108], &mut [0; 108], &mut [0; 108])?;
-    show(rt, 3, 5, &mut [0; 135], &mut [0; 135], &mut [0; 135])
-}
-
-fn of_width_four(rt: &impl Print) -> io::Result<()> {
-    show(rt, 4, 1, &mut [0; 36], &mut [0; 36], &mut [0; 36])?;
-    show(rt, 4, 2, &mut [0; 72], &mut [0; 72], &mut [0; 72])?;
-    show(rt, 4, 3, &mut [0; 108], &mut [0; 108], &mut [0; 108])?;
-    show(rt, 4, 4, &mut [0; 144], &mut [0; 144], &mut [0; 144])?;
-    show(rt, 4, 5, &mut [0; 180], &mut [0; 180], &mut [0; 180])
-}
-
-fn of_width_five(rt: &impl Print) -> io::Result<()> {
-    show(rt, 5, 1, &mut [0; 45], &mut [0; 45], &mut [0; 45])?;
-    show(rt, 5, 2, &mut [0; 90], &mut [0; 90], &mut [0; 90])?;
-    show(rt, 5, 3, &mut [0; 135], &mut [0; 135], &mut [0; 135])?;
-    show(rt, 5, 4, &mut [0; 180], &mut [0; 180], &mut [0; 180])?;
-    show(rt, 5, 5, &mut [0; 225], &mut [0; 225], &mut [0; 225])
+    post: &mut [u64; MOST],
+    f: &mut [u64; MOST],
+    seen: &mut [u64; MOST],
+) -> io::Result<()>
+    requires { nx ≤ 5 }
+{
+    for ny in 1..=SIDE {
+        let n = 9 * nx * ny;
+        let wrong = wrong_on(nx, ny, &mut post[..n], &mut f[..n], &mut seen[..n]);
+        println!(rt; "{nx} by {ny}: {wrong} of 81 wrong")?;
+    }
+    Ok(())
 }
 
 fn main(rt: HostRuntime) -> io::Result<()> {
-    of_width_one(&rt)?;
-    of_width_two(&rt)?;
-    of_width_three(&rt)?;
-    of_width_four(&rt)?;
-    of_width_five(&rt)
+    let mut post = [0; MOST];
+    let mut f = [0; MOST];
+    let mut seen = [0; MOST];
+    for nx in 1..=SIDE {
+        of_width(&rt, nx, &mut post, &mut f, &mut seen)?;
+    }
+    Ok(())
 }

@@ -7,10 +7,7 @@ fn ask(rt: &impl Print, line: &[u8]) -> io::Result<()> {
     rt.write_all(b"|")?;
     rt.write_all(line)?;
     rt.write_all(b"| ")?;
-    let answer = line::reply(line);
-    let text = answer.bytes;
-    let count = answer.count;
-    rt.write_all(&text[..count])
+    rt.write_all(line::reply(line).as_slice())
 }
 
 fn lossless(rt: &impl Print) -> io::Result<()> {

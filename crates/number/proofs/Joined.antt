@@ -1,48 +1,32 @@
 -- Patterns of finite numbers: none is a NaN's, and many of them, raised and joined, have the top bit clear exactly where each is finite.
 use mathlib.Core.Path.{◌≡◌, refl, sym, ap, ap₂, ◌∙◌}
 use mathlib.Core.Bool.{Bool, true, false, not, ◌&&◌}
-use Prim.Native.Nat.{ℕ, zero, suc, ◌+◌, ◌*◌, ◌/◌, ◌%◌, ◌≤◌, ◌<◌, max}
-use native.Mathlib.Nat.{add-zero, add-suc, zero-max, max-zero, suc-max-suc, max-le}
+use Prim.Native.Nat.{ℕ, zero, suc, ◌+◌, ◌<◌, max}
+use native.Mathlib.Nat.{add-zero, add-suc}
 use native.Mathlib.Numerals.{add-one}
 use native.Mathlib.Omega.{arith}
 use borrow.Author.Count.{below_none, below_more}
 use borrow.Author.Tests.{ltb-true, ltb-false, lt-ltb, le-ltb}
-use lib.Arith.{bin_ind, digits_div, digits_mod}
-use lib.Bits.{bit_or, or_step, or_comm, or_zero_r, or_lt, or_add_and, and_le_r}
+use lib.Bits.{bit_or, or_zero_r, or_lt}
 use lib.Dec.{T}
 use lib.Ieee.{binary64, nan_bits}
 use Rattle.number.specs.Joined.{finite_of, raised_of, joined_to, clear_of}
-use Rattle.number.proofs.Nan.{pattern_no_nan}
+use Rattle.std.proofs.lemmas.Float.{not_nan_f64_bits}
+use Rattle.std.proofs.lemmas.Nat.{le_or_l, le_or_r}
+use Rattle.std.proofs.lemmas.Nat.Bits.{bit_at_or, same_from_bits}
+use Rattle.std.specs.Int.{bit_at}
 
 pub finite_no_nan : (b : ℕ) → finite_of b ≡ true → T (not (nan_bits binary64 b))
-finite_no_nan b h = pattern_no_nan b (omega (arith, ltb-true))
+finite_no_nan b h = not_nan_f64_bits b (omega (arith, ltb-true))
 
--- ---- joining is associative
-
-max_assoc : (a b c : ℕ) → max (max a b) c ≡ max a (max b c)
-max_assoc zero b c = ap (λ (x : ℕ). max x c) (zero-max b) ∙ sym (zero-max (max b c))
-max_assoc (suc a) zero c = ap (λ (x : ℕ). max x c) (max-zero (suc a)) ∙ sym (ap (max (suc a)) (zero-max c))
-max_assoc (suc a) (suc b) zero = max-zero (max (suc a) (suc b)) ∙ sym (ap (max (suc a)) (max-zero (suc b)))
-max_assoc (suc a) (suc b) (suc c) = simp suc-max-suc (ap suc (max_assoc a b c))
-
-digit : (a b : ℕ) → max (a % 2) (b % 2) < 2
-digit a b = let p : a % 2 ≤ 1 = omega arith in let q : b % 2 ≤ 1 = omega arith in omega (arith, max-le p q)
-
-or_half : (a b : ℕ) → bit_or a b / 2 ≡ bit_or (a / 2) (b / 2)
-or_half a b = ap (λ (x : ℕ). x / 2) (or_step a b) ∙ digits_div (bit_or (a / 2) (b / 2)) (digit a b)
-
-or_odd : (a b : ℕ) → bit_or a b % 2 ≡ max (a % 2) (b % 2)
-or_odd a b = ap (λ (x : ℕ). x % 2) (or_step a b) ∙ digits_mod (bit_or (a / 2) (b / 2)) (digit a b)
+-- ---- joining is associative, bit by bit
 
 pub or_assoc : (a b c : ℕ) → bit_or (bit_or a b) c ≡ bit_or a (bit_or b c)
-or_assoc =
-    bin_ind (λ (a : ℕ). (b c : ℕ) → bit_or (bit_or a b) c ≡ bit_or a (bit_or b c)) (λ b c. refl)
-    (λ a ih b c.
-    or_step (bit_or a b) c
-    ∙ ap₂ (λ (x y : ℕ). x * 2 + y)
-    (ap (λ (x : ℕ). bit_or x (c / 2)) (or_half a b) ∙ ih (b / 2) (c / 2) ∙ sym (ap (bit_or (a / 2)) (or_half b c)))
-    (ap (λ (x : ℕ). max x (c % 2)) (or_odd a b) ∙ max_assoc (a % 2) (b % 2) (c % 2) ∙ sym (ap (max (a % 2)) (or_odd b c)))
-    ∙ sym (or_step a (bit_or b c)))
+or_assoc a b c =
+    same_from_bits _ _ (λ i. simp bit_at_or (max_assoc (bit_at a i) (bit_at b i) (bit_at c i)))
+  where
+    max_assoc : (x y z : ℕ) → max (max x y) z ≡ max x (max y z)
+    max_assoc x y z = omega arith
 
 -- ---- joined entries
 
@@ -81,9 +65,6 @@ raised_clear b = by-test (finite_of b) refl
     by-test true e = lt-ltb (raised_of b) 0x8000_0000_0000_0000 (omega (arith, ltb-true))
     by-test false e = le-ltb (raised_of b) 0x8000_0000_0000_0000 (omega (arith, ltb-false))
 
-or_above : (a b : ℕ) → a ≤ bit_or a b
-or_above a b = omega (arith, or_add_and a b, and_le_r a b)
-
 pub or_clear : (a b : ℕ) → clear_of (bit_or a b) ≡ (clear_of a && clear_of b)
 or_clear a b = by-test (clear_of a) (clear_of b) refl refl
   where
@@ -91,8 +72,8 @@ or_clear a b = by-test (clear_of a) (clear_of b) refl refl
     by-test true true p q =
         lt-ltb _ _ (or_lt 63 a b (ltb-true _ _ p) (ltb-true _ _ q))
     by-test true false p q =
-        le-ltb (bit_or a b) 0x8000_0000_0000_0000 (omega (arith, ltb-false, or_above b a, or_comm a b))
-    by-test false t p q = le-ltb (bit_or a b) 0x8000_0000_0000_0000 (omega (arith, ltb-false, or_above a b))
+        le-ltb (bit_or a b) 0x8000_0000_0000_0000 (omega (arith, ltb-false, le_or_r a b))
+    by-test false t p q = le-ltb (bit_or a b) 0x8000_0000_0000_0000 (omega (arith, ltb-false, le_or_l a b))
 
 -- one entry more
 clear_more : (g : ℕ → ℕ) (n : ℕ) → clear_of (joined_to g (suc n)) ≡ (clear_of (joined_to g n) && finite_of (g n))

@@ -1,4 +1,5 @@
 pub mod Nan
+pub mod ByKind
 pub mod Joined
 pub mod RoundTrips
 pub mod Exact

@@ -1,16 +1,13 @@
--- What a loop keeps, once for every such loop: a list of nine that is filled from the front, and a sum.
-use mathlib.Core.Path.{◌≡◌, refl, sym, ap, ◌∙◌, subst}
+-- What holds of each of nine, and what a loop that sums keeps, once for every such loop.
+use mathlib.Core.Path.{◌≡◌, refl, sym, ap, ◌∙◌}
 use mathlib.Core.List.{List, [], ◌∷◌}
 use Prim.Native.Nat.{ℕ, zero, suc, ◌+◌, ◌≤◌, ◌<◌}
-use native.Mathlib.Nat.{ne_of_lt}
 use native.Mathlib.Numerals.{add-one}
 use native.Mathlib.Omega.{arith}
-use borrow.Author.Count.{below_none, below_more}
-use lib.ListN.{length, get_or, set, length-set}
-use lib.Seq.{ext_get_or, get_or-set_same, get_or-set_other}
-use lib.Ieee.{Float, nan}
+use lib.ListN.{get_or}
+use lib.Ieee.{Float}
 use Rattle.number.specs.Number.{c0, ◌⊕◌}
-use Rattle.number.specs.Nine.{nine, at, sum_to}
+use Rattle.number.specs.Nine.{nine, sum_to}
 
 -- ---- what holds of each of nine
 
@@ -42,31 +39,6 @@ all_nine {A} g h e k b = sym (at_nine g (g 0) k b) ∙ ap (λ (l : List A). get_
 pub nine_of : (g : ℕ → Float) {a b c d e f h i j : Float} → a ≡ g 0 → b ≡ g 1 → c ≡ g 2 → d ≡ g 3 → e ≡ g 4 → f ≡ g 5 → h ≡ g 6 → i ≡ g 7 → j ≡ g 8
     → (a ∷ b ∷ c ∷ d ∷ e ∷ f ∷ h ∷ i ∷ j ∷ []) ≡ nine g
 nine_of g p0 p1 p2 p3 p4 p5 p6 p7 p8 = λ x. p0 x ∷ p1 x ∷ p2 x ∷ p3 x ∷ p4 x ∷ p5 x ∷ p6 x ∷ p7 x ∷ p8 x ∷ []
-
--- ---- a list that is filled
-
--- nine entries, those below i as g has them
-pub record Filled (g : ℕ → Float) (l : List Float) (i : ℕ) : Type 0 where
-  pub len : length l ≡ 9
-  pub low : i ≤ 9
-  pub done : (k : ℕ) → k < i → at l k ≡ g k
-
-pub filled_none : (g : ℕ → Float) (l : List Float) → length l ≡ 9 → Filled g l 0
-filled_none g l e = record { len = e; low = omega arith; done = below_none (λ k. at l k ≡ g k) }
-
-pub filled_more : (g : ℕ → Float) (l : List Float) (i : ℕ) (v : Float) → i < 9 → Filled g l i → v ≡ g i → Filled g (set l i v) (i + 1)
-filled_more g l i v h f e = record {
-  len = length-set l i v ∙ f.len;
-  low = omega arith;
-  done = below_more (λ k. at (set l i v) k ≡ g k) i
-      (λ k b. get_or-set_other l i k v nan (ne_of_lt b) ∙ f.done k b)
-      (get_or-set_same l i v nan (subst (λ (n : ℕ). i < n) (sym f.len) h) ∙ e);
-}
-
-pub filled_all : (g : ℕ → Float) (l : List Float) (i : ℕ) → 9 ≤ i → Filled g l i → l ≡ nine g
-filled_all g l i h f =
-    ext_get_or nan l (nine g) f.len
-    (λ k b. let b9 : k < 9 = subst (λ (n : ℕ). k < n) f.len b in f.done k (omega arith) ∙ sym (at_nine g nan k b9))
 
 -- ---- a sum
 

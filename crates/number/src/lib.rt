@@ -7,18 +7,17 @@ ghost use Rattle.std.specs.Float.Ieee.{of_bits, to_bits};
 ghost use Rattle.number.specs.Number.{not_finite, magnitude_of, larger_of};
 ghost use Rattle.number.specs.Joined.{finite_of, raised_of, clear_of};
 
+use std::num::{f64_from_bits_with_nan, f64_to_bits_with_nan};
+
 // The number that a pattern stands for. Every NaN's pattern is the one NaN.
 pub fn value(b: u64) -> f64
     ensures { result ≡ of_bits binary64 b }
 {
-    if 0x7ff0_0000_0000_0000 < b % 0x8000_0000_0000_0000 {
-        0.0 / 0.0
-    } else {
-        f64::from_bits(b)
-    }
+    f64_from_bits_with_nan(b)
 }
 
 // The number that a finite number's pattern stands for, with no test for a NaN.
+#[tactic(auto, using(crate::proofs::Joined::finite_no_nan))]
 pub fn finite_value(b: u64) -> f64
     requires { finite_of b ≡ true }
     ensures { result ≡ of_bits binary64 b }
@@ -45,43 +44,29 @@ pub fn clear(bits: u64) -> bool
 pub fn pattern(x: f64) -> u64
     ensures { result ≡ to_bits binary64 x }
 {
-    if x != x {
-        0x7ff8_0000_0000_0000
-    } else {
-        f64::to_bits(x)
-    }
+    f64_to_bits_with_nan(x)
 }
 
-// Whether x is a NaN or an infinity.
+// Whether x is a NaN or an infinity. Two comparisons, which a loop over snapshots takes faster than the subtraction of `is_finite`.
+#[tactic(auto, using(crate::proofs::ByKind::not_finite_is))]
 pub fn not_finite(x: f64) -> bool
     ensures { result ≡ not_finite x }
 {
-    let infinity = 1.0 / 0.0;
-    !((-infinity < x) & (x < infinity))
+    !((f64::NEG_INFINITY < x) & (x < f64::INFINITY))
 }
 
 // The sign cleared; a NaN stays a NaN.
+#[tactic(auto, using(crate::proofs::ByKind::magnitude_is))]
 pub fn magnitude(x: f64) -> f64
     ensures { result ≡ magnitude_of x }
 {
-    if x < 0.0 {
-        -x
-    } else if x == 0.0 {
-        0.0
-    } else {
-        x
-    }
+    x.abs()
 }
 
 // The larger of two. Where either is a NaN it is the NaN, which Rust's `f64::max` drops.
+#[tactic(auto, unfolding(crate::specs::Number::larger_of))]
 pub fn larger(a: f64, b: f64) -> f64
     ensures { result ≡ larger_of a b }
 {
-    if b != b {
-        b
-    } else if a < b {
-        b
-    } else {
-        a
-    }
+    if b.is_nan() || a < b { b } else { a }
 }

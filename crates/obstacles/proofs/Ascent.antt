@@ -1,13 +1,15 @@
--- A list that ascends strictly, as the turns see it: each place stands at or above the lowest that may come next.
+-- A list that ascends strictly, taken from its head: each place stands at or above the lowest that may come next.
 use mathlib.Core.Path.{◌≡◌, refl, sym, ◌∙◌}
 use mathlib.Core.Bool.{Bool, true, false, ◌||◌}
 use mathlib.Core.List.{List, [], ◌∷◌}
-use Prim.Native.Nat.{ℕ, ◌+◌}
+use Prim.Native.Nat.{ℕ, zero, suc, ◌+◌, ◌<◌}
+use lib.ListN.{length, get_or, drop}
 use native.Mathlib.Omega.{arith}
 use lib.Dec.{leb, ltb}
 use borrow.Author.Tests.{leb-true, leb-false, lt-ltb, le-ltb}
 use Rattle.settings.specs.declared.Obstacle.{Obstacle}
 use Rattle.settings.specs.Tests.{place_of, falls}
+use Rattle.settings.proofs.Laws.{or_right}
 
 below_next : (a c : ℕ) → ltb a (c + 1) ≡ leb a c
 below_next a c = go (leb a c) refl
@@ -15,6 +17,9 @@ below_next a c = go (leb a c) refl
     go : (p : Bool) → leb a c ≡ p → ltb a (c + 1) ≡ leb a c
     go true e = let h = leb-true a c e in lt-ltb a (c + 1) (omega arith) ∙ sym e
     go false e = let h = leb-false a c e in le-ltb a (c + 1) (omega arith) ∙ sym e
+
+abbrev pub nowhere : Obstacle
+nowhere = record { x = 0; y = 0 }
 
 module _ (nx : ℕ) where
   -- the list falls below cell m, or falls within itself
@@ -31,3 +36,15 @@ module _ (nx : ℕ) where
   unfolding falls
   falls_from_lem [] = refl
   falls_from_lem (o ∷ rest) = rw (le-ltb (place_of nx o) 0 (omega arith)) (falls_after o rest)
+
+  falls_rest : (o : Obstacle) (rest : List Obstacle) → falls nx (o ∷ rest) ≡ false → falls nx rest ≡ false
+  unfolding falls
+  falls_rest o [] e = refl
+  falls_rest o (p ∷ rest) e = or_right (leb (place_of nx p) (place_of nx o)) (falls nx (p ∷ rest)) e
+
+  -- of a list that ascends, what comes after the k-th stands above it
+  pub ascends_from : (list : List Obstacle) → falls nx list ≡ false → (k : ℕ) → k < length list
+      → falls_from (place_of nx (get_or list k nowhere) + 1) (drop (suc k) list) ≡ false
+  ascends_from [] e k h = absurd (omega arith)
+  ascends_from (o ∷ rest) e zero h = sym (falls_after o rest) ∙ e
+  ascends_from (o ∷ rest) e (suc k) h = ascends_from rest (falls_rest o rest e) k (omega arith)

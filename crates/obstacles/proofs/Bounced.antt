@@ -14,9 +14,9 @@ use Rattle.grid.proofs.Fields.{is_buffer}
 use Rattle.settings.specs.declared.Obstacle.{Obstacle}
 use Rattle.settings.specs.Tests.{place_of}
 use Rattle.obstacles.specs.Obstacles.{is_named, bounced, bounced_buffer}
-use Rattle.obstacles.proofs.Numbers.{Fits}
+use Rattle.obstacles.proofs.Lists.{On}
 
-module _ (nx ny : ℕ) (o : Obstacle) (f e : List ℕ) (h : Fits nx ny (length f) o)
+module _ (nx ny : ℕ) (o : Obstacle) (f e : List ℕ) (size : length f ≡ 9 * (nx * ny)) (h : On nx ny o)
     (p : Put f e (nx * ny) (place_of nx o) (λ i. get_or f (place_of nx o + OPP i * (nx * ny)) 0)) where
   entry : (x y i : ℕ) → x < nx → y < ny → i < 9 → (a b : Bool) → eqb o.x x ≡ a → eqb o.y y ≡ b
       → get_or e (x + y * nx + i * (nx * ny)) 0 ≡ bounced (o ∷ []) (field_of nx ny f) x y i
@@ -35,5 +35,5 @@ module _ (nx ny : ℕ) (o : Obstacle) (f e : List ℕ) (h : Fits nx ny (length f
   pub bounced_put : e ≡ bounced_buffer nx ny (o ∷ []) f
   unfolding bounced_buffer field_of
   bounced_put =
-      is_buffer nx ny e (bounced (o ∷ []) (field_of nx ny f)) (p.size ∙ h.size)
+      is_buffer nx ny e (bounced (o ∷ []) (field_of nx ny f)) (p.size ∙ size)
       (record { here = λ x y i hx hy hi. entry x y i hx hy hi (eqb o.x x) (eqb o.y y) refl refl })

@@ -1,12 +1,13 @@
 -- One cell: exchanges of two entries, one after the other, and that the four of `swap` are the opposites.
 use mathlib.Core.Path.{◌≡◌, refl, ap, ◌∙◌}
-use mathlib.Core.Bool.{Bool, true, false}
+use mathlib.Core.Bool.{Bool, true, false, cond}
 use mathlib.Core.List.{List}
 use Prim.Native.Nat.{ℕ, ◌+◌, ◌*◌, ◌<◌}
 use native.Mathlib.Omega.{arith}
 use lib.Dec.{eqb}
-use lib.ListN.{length, get_or, set, length-set}
-use lib.Seq.{get_or-set_same, get_or-set_other}
+use lib.ListN.{length, get_or}
+use Rattle.std.specs.List.{swap}
+use Rattle.std.proofs.lemmas.List.Edits.{Swapped, swapped_from_swap, length-swap}
 use borrow.Author.Tests.{eqb-true, eqb-false}
 use Rattle.number.specs.Nine.{nine}
 use Rattle.number.proofs.Nine.{all_nine}
@@ -14,10 +15,12 @@ use Rattle.lattice.specs.Lattice.{opposites, OPP}
 use Rattle.grid.specs.Grid.{Holds}
 use Rattle.grid.specs.Writes.{Put}
 use Rattle.grid.proofs.Radix.{cell_in, low_inj, high_inj}
-use Rattle.obstacles.specs.Turns.{exchanged}
+
+-- directions i and k are exchanged
+unfoldable pub exchanged : ℕ → ℕ → ℕ → ℕ
+exchanged i k j = cond (eqb j i) k (cond (eqb j k) i j)
 
 module _ (d : List ℕ) (n c : ℕ) (h : Holds d n c) where
-  -- two entries are stored in each other's places
   module _ (i k : ℕ) (l : i < k) (hk : k < 9) where
     abbrev a : ℕ
     a = c + i * n
@@ -25,46 +28,34 @@ module _ (d : List ℕ) (n c : ℕ) (h : Holds d n c) where
     abbrev b : ℕ
     b = c + k * n
 
-    abbrev one : List ℕ
-    one = set d a (get_or d b 0)
-
-    abbrev two : List ℕ
-    two = set one b (get_or d a 0)
-
     apart : (i' k' : ℕ) → (i' ≡ k' → ⊥) → c + i' * n ≡ c + k' * n → ⊥
     apart i' k' ne e = ne (high_inj n c i' c k' h.cell h.cell e)
 
-    in-d : (j : ℕ) → j < 9 → c + j * n < length d
-    in-d j hj = omega (arith, cell_in n c j h.cell hj, h.size)
+    within : (j : ℕ) → j < 9 → c + j * n < length d
+    within j hj = omega (arith, cell_in n c j h.cell hj, h.size)
 
-    in_one : b < length one
-    in_one = simp length-set (in-d k hk)
-
-    entry : (j : ℕ) (p q : Bool) → eqb j i ≡ p → eqb j k ≡ q → get_or two (c + j * n) 0 ≡ get_or d (c + exchanged i k j * n) 0
+    entry : (e : List ℕ) → Swapped (λ m. get_or d m 0) (λ m. get_or e m 0) a b → (j : ℕ) (p q : Bool) → eqb j i ≡ p → eqb j k ≡ q
+        → get_or e (c + j * n) 0 ≡ get_or d (c + exchanged i k j * n) 0
     unfolding exchanged
-    entry j true q e e' =
-        let is = eqb-true j i e in
-        rw (e, is) (get_or-set_other one b a (get_or d a 0) 0 (apart i k (λ z. omega arith)) ∙ get_or-set_same d a (get_or d b 0) 0 (in-d i (omega arith)))
-    entry j false true e e' = let is = eqb-true j k e' in rw (e, e', is) (get_or-set_same one b (get_or d a 0) 0 in_one)
-    entry j false false e e' =
-        rw (e, e')
-        (get_or-set_other one b (c + j * n) (get_or d a 0) 0 (apart j k (eqb-false j k e'))
-        ∙ get_or-set_other d a (c + j * n) (get_or d b 0) 0 (apart j i (eqb-false j i e)))
+    entry e w j true q x y = rw (x, eqb-true j i x) w.0
+    entry e w j false true x y = rw (x, y, eqb-true j k y) w.1
+    entry e w j false false x y = rw (x, y) (w.2 (c + j * n) (apart j i (eqb-false j i x)) (apart j k (eqb-false j k y)))
 
-    pub put_two : Put d two n c (λ j. get_or d (c + exchanged i k j * n) 0)
-    put_two = record {
-      size = length-set one b (get_or d a 0) ∙ length-set d a (get_or d b 0);
-      written = λ j _. entry j (eqb j i) (eqb j k) refl refl;
-      others = λ b' j lb ne.
-          get_or-set_other one b (b' + j * n) (get_or d a 0) 0 (λ e. ne (low_inj n b' j c k lb h.cell e))
-          ∙ get_or-set_other d a (b' + j * n) (get_or d b 0) 0 (λ e. ne (low_inj n b' j c i lb h.cell e));
-    }
+    -- by the code `f.swap(a, b)`
+    put_swap : {e : List ℕ} → e ≡ swap d a b → Put d e n c (λ j. get_or d (c + exchanged i k j * n) 0)
+    put_swap {e} q =
+        let w = swapped_from_swap d e a b 0 (within i (omega arith)) (within k hk) q in
+        record {
+          size = ap length q ∙ length-swap d a b;
+          written = λ j _. entry e w j (eqb j i) (eqb j k) refl refl;
+          others = λ b' j lb ne. w.2 (b' + j * n) (λ x. ne (low_inj n b' j c i lb h.cell x)) (λ x. ne (low_inj n b' j c k lb h.cell x));
+        }
 
-  pub holds_put : (e : List ℕ) (v : ℕ → ℕ) → Put d e n c v → Holds e n c
-  holds_put e v p = record { few = h.few; cell = h.cell; size = p.size ∙ h.size }
+  holds_put : {e : List ℕ} {v : ℕ → ℕ} → Put d e n c v → Holds e n c
+  holds_put p = record { few = h.few; cell = h.cell; size = p.size ∙ h.size }
 
 -- one rearrangement after the other
-pub put_put : (d e g : List ℕ) (n c : ℕ) (s t : ℕ → ℕ) → ((j : ℕ) → j < 9 → t j < 9)
+put_put : (d e g : List ℕ) (n c : ℕ) (s t : ℕ → ℕ) → ((j : ℕ) → j < 9 → t j < 9)
     → Put d e n c (λ j. get_or d (c + s j * n) 0) → Put e g n c (λ j. get_or e (c + t j * n) 0) → Put d g n c (λ j. get_or d (c + s (t j) * n) 0)
 put_put d e g n c s t small p q = record {
   size = q.size ∙ p.size;
@@ -108,3 +99,18 @@ put_four d e1 e2 e3 e4 n c p1 p2 p3 p4 =
           (all_nine (λ i. exchanged 1 3 (exchanged 2 4 (exchanged 5 7 (exchanged 6 8 i)))) (λ i. OPP i) four_table j hj);
       others = q4.others;
     }
+
+-- by the code's four swaps
+pub swapped : (d : List ℕ) (n c : ℕ) {e1 e2 e3 e4 : List ℕ} → Holds d n c
+    → e1 ≡ swap d (c + n) (c + 3 * n) → e2 ≡ swap e1 (c + 2 * n) (c + 4 * n)
+    → e3 ≡ swap e2 (c + 5 * n) (c + 7 * n) → e4 ≡ swap e3 (c + 6 * n) (c + 8 * n)
+    → Put d e4 n c (λ i. get_or d (c + OPP i * n) 0)
+swapped d n c {e1} {e2} {e3} {e4} h q1 q2 q3 q4 =
+    let one : n ≡ 1 * n = omega arith in
+    let p1 = put_swap d n c h 1 3 (omega arith) (omega arith) (q1 ∙ ap (λ (m : ℕ). swap d (c + m) (c + 3 * n)) one) in
+    let h1 = holds_put d n c h p1 in
+    let p2 = put_swap e1 n c h1 2 4 (omega arith) (omega arith) q2 in
+    let h2 = holds_put e1 n c h1 p2 in
+    let p3 = put_swap e2 n c h2 5 7 (omega arith) (omega arith) q3 in
+    let p4 = put_swap e3 n c (holds_put e2 n c h2 p3) 6 8 (omega arith) (omega arith) q4 in
+    put_four d e1 e2 e3 e4 n c p1 p2 p3 p4

@@ -1,9 +1,7 @@
-pub mod Numbers
 pub mod Ascent
+pub mod Lists
 pub mod Cell
 pub mod Bounced
-pub mod Runs
-pub mod Testing
 pub mod Writing
 pub mod Outcome
 pub mod Twice

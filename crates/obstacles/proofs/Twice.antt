@@ -98,7 +98,7 @@ module _ (s : Settings) (list : List Obstacle) where
         go : (t : Bool) → eqb (number f) 0 ≡ t → no_slip_set s list left ≡ outcome (no_slip_set s list f).number f
         go true e =
             let z = eqb-true (number f) 0 e in
-            let size = (accepted s list f z).size in
+            let size = (accepted s list (length f) (sym z)).size in
             let as_long = bounced_length s.nx s.ny list f ∙ sym size in
             again (done f z)
             ∙ done (rule f) (ap (λ (len : ℕ). refusal (set_no_slip_bc s list len)) as_long ∙ z)

@@ -1,23 +1,26 @@
--- The turns that write: where the list ascends, the cells that are turned one after the other are as the rule says of all of them.
+-- Where the list ascends, the cells that are turned one after the other are as the rule says of all of them.
 use mathlib.Core.Path.{◌≡◌, refl, sym, ◌∙◌, subst}
 use mathlib.Core.Bool.{Bool, true, false, cond, ◌&&◌, ◌||◌}
 use mathlib.Core.List.{List, [], ◌∷◌}
-use Prim.Native.Nat.{ℕ, ◌+◌, ◌*◌, ◌≤◌}
+use Prim.Native.Nat.{ℕ, suc, ◌+◌, ◌*◌, ◌≤◌, ◌<◌}
 use native.Mathlib.Omega.{arith}
 use lib.Dec.{T, eqb, ltb}
-use lib.ListN.{length}
+use lib.ListN.{length, get_or, drop, drop_of_length-le}
+use lib.Seq.{drop-cons}
+use native.Mathlib.Numerals.{add-one}
+use Rattle.grid.specs.Writes.{Put}
 use borrow.Author.Tests.{eqb-true, ltb-false}
 use Rattle.lattice.specs.Lattice.{OPP}
 use Rattle.lattice.proofs.Tables.{opposite_small}
 use Rattle.grid.specs.Grid.{Field, field_of, buffer_of}
-use Rattle.grid.proofs.Fields.{buffer_length, field_of_buffer, buffer_of_field, same_buffer}
+use Rattle.grid.proofs.Fields.{field_of_buffer, buffer_of_field, same_buffer}
 use Rattle.settings.specs.declared.Obstacle.{Obstacle}
-use Rattle.settings.specs.Tests.{place_bad, outside, place_of}
+use Rattle.settings.specs.Tests.{outside, place_of, falls}
 use Rattle.settings.proofs.Laws.{or_left, or_right}
 use Rattle.obstacles.specs.Obstacles.{is_named, bounced, bounced_buffer}
-use Rattle.obstacles.specs.Turns.{size_number, place_number, bounced_at}
-use Rattle.obstacles.proofs.Ascent.{falls_from}
-use Rattle.obstacles.proofs.Runs.{whole}
+use Rattle.obstacles.proofs.Ascent.{nowhere, falls_from, ascends_from}
+use Rattle.obstacles.proofs.Lists.{on}
+use Rattle.obstacles.proofs.Bounced.{bounced_put}
 
 abbrev hit : Obstacle → ℕ → ℕ → Bool
 hit o x y = eqb o.x x && eqb o.y y
@@ -72,17 +75,7 @@ none_named : (p : Field) (x y i : ℕ) → bounced [] p x y i ≡ p x y i
 unfolding bounced is_named
 none_named p x y i = refl
 
-module _ (nx ny : ℕ) (later_ones : (later : ℕ) → size_number nx ny (9 * (nx * ny)) later ≡ later) where
-  -- one turn
-  turned_one : (o : Obstacle) (b : List ℕ) → length b ≡ 9 * (nx * ny) → place_bad nx ny o.x o.y ≡ false
-      → bounced_at nx ny o b ≡ bounced_buffer nx ny (o ∷ []) b
-  unfolding bounced_at place_number
-  turned_one o b size e = rw (size, later_ones (cond (place_bad nx ny o.x o.y) 6 0), e)
-
-  one_length : (list : List Obstacle) (b : List ℕ) → length (bounced_buffer nx ny list b) ≡ 9 * (nx * ny)
-  unfolding bounced_buffer
-  one_length list b = buffer_length nx ny (bounced list (field_of nx ny b))
-
+module _ (nx ny : ℕ) where
   one_more : (o : Obstacle) (rest : List Obstacle) (b : List ℕ) → falls_from nx (place_of nx o + 1) rest ≡ false
       → bounced_buffer nx ny rest (bounced_buffer nx ny (o ∷ []) b) ≡ bounced_buffer nx ny (o ∷ rest) b
   unfolding bounced_buffer
@@ -103,16 +96,21 @@ module _ (nx ny : ℕ) (later_ones : (later : ℕ) → size_number nx ny (9 * (n
       same_buffer nx ny _ _ (record { here = λ x y i hx hy hi. none_named (field_of nx ny b) x y i })
       ∙ buffer_of_field nx ny b size
 
-  -- the turns, from any buffer and any place that may come next
-  pub turned_all : (m : ℕ) (list : List Obstacle) (b : List ℕ) → length b ≡ 9 * (nx * ny) → outside nx ny list ≡ false
-      → falls_from nx m list ≡ false
-      → whole (bounced_at nx ny) b list ≡ bounced_buffer nx ny list b
-  unfolding outside
-  turned_all m [] b size ins up = sym (none_turned b size)
-  turned_all m (o ∷ rest) b size ins up =
-      let bad = place_bad nx ny o.x o.y in
-      let above = or_right (ltb (place_of nx o) m) (falls_from nx (place_of nx o + 1) rest) up in
-      rw (turned_one o b size (or_left bad (outside nx ny rest) ins))
-      (turned_all (place_of nx o + 1) rest (bounced_buffer nx ny (o ∷ []) b) (one_length (o ∷ []) b)
-      (or_right bad (outside nx ny rest) ins) above
-      ∙ one_more o rest b above)
+  -- ---- the loop, after k obstacles
+
+  pub turned_more : (list : List Obstacle) (b e : List ℕ) (k : ℕ) → outside nx ny list ≡ false → falls nx list ≡ false
+      → length b ≡ 9 * (nx * ny) → k < length list
+      → (let c = place_of nx (get_or list k nowhere) in Put b e (nx * ny) c (λ i. get_or b (c + OPP i * (nx * ny)) 0))
+      → bounced_buffer nx ny (drop (k + 1) list) e ≡ bounced_buffer nx ny (drop k list) b
+  turned_more list b e k ins up size h p =
+      let o = get_or list k nowhere in
+      rw (
+        add-one k,
+        bounced_put nx ny o b e size (on nx ny list ins k h) p,
+        one_more o (drop (suc k) list) b (ascends_from nx list up k h),
+        drop-cons list k nowhere h,
+      )
+
+  pub turned_all : (list : List Obstacle) (b : List ℕ) (k : ℕ) → length b ≡ 9 * (nx * ny) → length list ≤ k
+      → b ≡ bounced_buffer nx ny (drop k list) b
+  turned_all list b k size h = rw (drop_of_length-le list h) (sym (none_turned b size))

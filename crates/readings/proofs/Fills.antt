@@ -1,18 +1,19 @@
 -- The two loops that fill a buffer cell by cell: what one cell more writes, and what all cells make of the buffer.
-use mathlib.Core.Path.{◌≡◌, sym, ap, ◌∙◌}
+use mathlib.Core.Path.{◌≡◌, refl, sym, ap, ◌∙◌}
 use mathlib.Core.List.{List}
 use Prim.Native.Nat.{ℕ, ◌+◌, ◌*◌, ◌/◌, ◌%◌, ◌<◌}
 use native.Mathlib.Nat.{zero-add}
+use native.Mathlib.Numerals.{add-one}
 use native.Mathlib.Omega.{arith}
 use lib.Ieee.{Float, nan}
 use lib.ListN.{length, set}
-use Rattle.number.specs.Number.{pattern_of}
-use Rattle.number.specs.Nine.{at}
+use Rattle.number.specs.Number.{pattern_of, c0, ◌⊕◌}
+use Rattle.number.specs.Nine.{at, sum_to}
 use Rattle.number.proofs.Nine.{at_nine}
 use Rattle.grid.specs.Grid.{buffer_of}
 use Rattle.grid.specs.Writes.{Wrote, Cells}
 use Rattle.grid.proofs.Fields.{is_buffer, is_listed}
-use Rattle.grid.proofs.Writes.{one_more, to_length, cells_all}
+use Rattle.grid.proofs.Writes.{none, one_more, to_length, cells_none, cell_more, cells_all}
 use Rattle.cell.specs.declared.Moments.{Moments}
 use Rattle.cell.specs.Cell.{equilibrium_at, equilibria_of}
 use Rattle.settings.specs.declared.Settings.{Settings}
@@ -60,3 +61,19 @@ module _ (s : Settings) (f : List ℕ) where
   pub velocity_all : {d e : List ℕ} → length d ≡ 2 * (s.nx * s.ny) → Wrote d e 0 (2 * (s.nx * s.ny)) (velocity_entry s f) → e ≡ velocity_buffer s f
   unfolding velocity_buffer
   velocity_all {d} {e} size w = is_listed (2 * (s.nx * s.ny)) e (velocity_entry s f) (w.size ∙ size) (simp zero-add at w.inside)
+
+-- ---- a sum over the cells
+
+pub sum_none : (g : ℕ → Float) → sum_to g 0 ≡ c0
+unfolding sum_to
+sum_none g = refl
+
+pub sum_more : (g : ℕ → Float) (k : ℕ) → sum_to g (k + 1) ≡ sum_to g k ⊕ g k
+unfolding sum_to
+sum_more g k = rw add-one
+
+-- ---- what the loops that fill a buffer cite
+
+pub ruleset initial_fill = (cells_none, cell_more, initial_cell, initial_all)
+
+pub ruleset velocity_fill = (none, to_length, velocity_more, velocity_all)

@@ -1,5 +1,5 @@
 -- What the readings answer, and what they leave in the buffers that they write. Cell c = x + y·nx is the one at (x, y).
-use Rattle.std.specs.Prelude.{◌≡◌, cond, List, ℕ, ◌+◌, ◌*◌, ◌/◌, ◌%◌, eqb, length, get_or, take, drop, Float}
+use Rattle.std.specs.Prelude.{◌≡◌, cond, List, ℕ, ◌+◌, ◌*◌, ◌/◌, ◌%◌, eqb, length, get_or, take, drop, Float, Result, Ok, Err}
 use Rattle.std.specs.Borrow.{Bor}
 use Rattle.number.specs.Number.{◌⊕◌, ◌⊗◌, c0, c½, value_of, pattern_of}
 use Rattle.number.specs.Nine.{sum_to}
@@ -10,8 +10,9 @@ use Rattle.settings.specs.declared.Settings.{Settings}
 use Rattle.settings.specs.Refusals as Call
 use Rattle.settings.specs.Refusals.{refusal}
 use Rattle.settings.specs.Outcome.{answer, Written, written}
-use Rattle.readings.specs.declared.Reading.{Reading}
-use Rattle.readings.specs.declared.VelocityReading.{VelocityReading}
+use Rattle.settings.specs.Refused.{number}
+use Rattle.settings.specs.declared.refused.Refusal.{Refusal}
+use Rattle.readings.specs.declared.answers.Velocity.{Velocity}
 
 -- ---- initialize
 
@@ -42,6 +43,25 @@ density_at s f c = density_of (cell_of f (s.nx * s.ny) c)
 -- the velocity, beside the density
 abbrev pub velocity_at : Settings → List ℕ → ℕ → Moments
 velocity_at s f c = read_moments (cell_of f (s.nx * s.ny) c) s.fx s.fy s.floor
+
+-- a number of the rules, and the value that is read
+pub record Reading : Type 0 where
+  pub number : ℕ
+  pub value : Float
+
+pub record VelocityReading : Type 0 where
+  pub number : ℕ
+  pub ux : Float
+  pub uy : Float
+
+-- what is answered as such a reading: zero where it is refused
+abbrev pub reading_of : Result Float Refusal → Reading
+reading_of (Ok x) = record { number = 0; value = x }
+reading_of (Err why) = record { number = number why; value = c0 }
+
+abbrev pub velocity_reading_of : Result Velocity Refusal → VelocityReading
+velocity_reading_of (Ok u) = record { number = 0; ux = u.ux; uy = u.uy }
+velocity_reading_of (Err why) = record { number = number why; ux = c0; uy = c0 }
 
 -- one number read, and zero where it is refused
 abbrev pub reading : ℕ → Float → Reading
@@ -100,7 +120,7 @@ pub record PartOf (r f : Bor (List ℕ)) (start count : ℕ) : Type 0 where
   pub size : length r.now ≡ count
   pub holds : r.now ≡ take count (drop start f.now)
 
--- all entries of direction i; an empty part where it is refused
+-- where all entries of direction i stand, and how many; none where it is refused
 abbrev pub plane_start : Settings → List ℕ → ℕ → ℕ
 plane_start s f i = answer (refusal (Call.plane s (length f) i)) (i * (s.nx * s.ny)) 0
 

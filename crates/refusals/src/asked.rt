@@ -1,279 +1,275 @@
 // The questions beside the operations, which take lengths and no buffers: bounds from both sides, and the order of the numbers.
-use crate::given::{
-    colliding, faced, floored, forced, infinity, nan, sized, viscous, x_max, x_min, y_max, y_min,
-};
+use crate::given::{colliding, faced, floored, forced, sized, viscous, x_max, x_min, y_max, y_min};
 use cell::Collision;
-use settings::{Face, Settings};
+use settings::{Face, Settings, number_of};
 use std::io;
 
 // ---- questions on 3 by 2, each buffer of the right length
 
-fn step(rt: &impl Print, case: &[u8], s: Settings) -> io::Result<()> {
-    show::number(rt, b"step_refusal", case, settings::step_refusal(s, 54, 54))
-}
-
-fn velocity(rt: &impl Print, case: &[u8], s: Settings) -> io::Result<()> {
+fn step(rt: &impl Print, case: &str, s: Settings) -> io::Result<()> {
     show::number(
         rt,
-        b"velocity_refusal",
+        "step_refusal",
         case,
-        settings::velocity_refusal(s, 54, 0, 0),
+        number_of(settings::check_step(s, 54, 54)),
     )
 }
 
-fn density(rt: &impl Print, case: &[u8], s: Settings, x: usize, y: usize) -> io::Result<()> {
+fn velocity(rt: &impl Print, case: &str, s: Settings) -> io::Result<()> {
     show::number(
         rt,
-        b"density_refusal",
+        "velocity_refusal",
         case,
-        settings::density_refusal(s, 54, x, y),
+        number_of(settings::check_velocity(s, 54, 0, 0)),
     )
 }
 
-fn plane(rt: &impl Print, case: &[u8], i: usize) -> io::Result<()> {
+fn density(rt: &impl Print, case: &str, s: Settings, x: usize, y: usize) -> io::Result<()> {
     show::number(
         rt,
-        b"plane_refusal",
+        "density_refusal",
         case,
-        settings::plane_refusal(sized(3, 2), 54, i),
+        number_of(settings::check_density(s, 54, x, y)),
     )
 }
 
-fn stream(rt: &impl Print, case: &[u8], s: Settings) -> io::Result<()> {
+fn plane(rt: &impl Print, case: &str, i: usize) -> io::Result<()> {
     show::number(
         rt,
-        b"stream_with_faces_refusal",
+        "plane_refusal",
         case,
-        settings::stream_with_faces_refusal(s, 54, 54),
+        number_of(settings::check_plane(sized(3, 2), 54, i)),
     )
 }
 
-fn lossless(rt: &impl Print, case: &[u8], s: Settings) -> io::Result<()> {
-    show::number(rt, b"lossless_refusal", case, settings::lossless_refusal(s))
-}
-
-fn reverse(rt: &impl Print, case: &[u8], s: Settings) -> io::Result<()> {
+fn stream(rt: &impl Print, case: &str, s: Settings) -> io::Result<()> {
     show::number(
         rt,
-        b"reverse_refusal",
+        "stream_with_faces_refusal",
         case,
-        settings::reverse_refusal(s, 54, 54),
+        number_of(settings::check_stream_with_faces(s, 54, 54)),
     )
 }
 
-fn steady(rt: &impl Print, case: &[u8], tolerance: f64, steps: u64) -> io::Result<()> {
+fn lossless(rt: &impl Print, case: &str, s: Settings) -> io::Result<()> {
+    show::number(
+        rt,
+        "lossless_refusal",
+        case,
+        number_of(settings::check_lossless(s)),
+    )
+}
+
+fn reverse(rt: &impl Print, case: &str, s: Settings) -> io::Result<()> {
+    show::number(
+        rt,
+        "reverse_refusal",
+        case,
+        number_of(settings::check_reverse(s, 54, 54)),
+    )
+}
+
+fn steady(rt: &impl Print, case: &str, tolerance: f64, steps: u64) -> io::Result<()> {
     let s = sized(3, 2);
-    let number = settings::run_to_steady_state_refusal(s, tolerance, steps, 54, 54, 12);
-    show::number(rt, b"run_to_steady_state_refusal", case, number)
+    let number = number_of(settings::check_run_to_steady_state(s, tolerance, steps, 54, 54, 12));
+    show::number(rt, "run_to_steady_state_refusal", case, number)
 }
 
 // ---- bounds
 
 fn sides(rt: &impl Print) -> io::Result<()> {
-    lossless(rt, b"0 by 7", sized(0, 7))?;
-    lossless(rt, b"7 by 0", sized(7, 0))?;
-    lossless(rt, b"4097 by 1", sized(4097, 1))?;
-    lossless(rt, b"1 by 4097", sized(1, 4097))?;
-    lossless(rt, b"4096 by 256", sized(4096, 256))?;
-    lossless(rt, b"4096 by 257", sized(4096, 257))
+    lossless(rt, "0 by 7", sized(0, 7))?;
+    lossless(rt, "7 by 0", sized(7, 0))?;
+    lossless(rt, "4097 by 1", sized(4097, 1))?;
+    lossless(rt, "1 by 4097", sized(1, 4097))?;
+    lossless(rt, "4096 by 256", sized(4096, 256))?;
+    lossless(rt, "4096 by 257", sized(4096, 257))
 }
 
 fn lengths(rt: &impl Print) -> io::Result<()> {
     let s = sized(3, 2);
     show::number(
         rt,
-        b"step_refusal",
-        b"lengths 54 and 54",
-        settings::step_refusal(s, 54, 54),
+        "step_refusal",
+        "lengths 54 and 54",
+        number_of(settings::check_step(s, 54, 54)),
     )?;
     show::number(
         rt,
-        b"step_refusal",
-        b"lengths 53 and 54",
-        settings::step_refusal(s, 53, 54),
+        "step_refusal",
+        "lengths 53 and 54",
+        number_of(settings::check_step(s, 53, 54)),
     )?;
     show::number(
         rt,
-        b"step_refusal",
-        b"lengths 54 and 55",
-        settings::step_refusal(s, 54, 55),
+        "step_refusal",
+        "lengths 54 and 55",
+        number_of(settings::check_step(s, 54, 55)),
     )
 }
 
 fn viscosities(rt: &impl Print) -> io::Result<()> {
-    step(rt, b"viscosity 0", viscous(0.0))?;
-    step(rt, b"viscosity -1", viscous(-1.0))?;
-    step(rt, b"viscosity NaN", viscous(nan()))?;
-    step(rt, b"viscosity infinite", viscous(infinity()))
+    step(rt, "viscosity 0", viscous(0.0))?;
+    step(rt, "viscosity -1", viscous(-1.0))?;
+    step(rt, "viscosity NaN", viscous(f64::NAN))?;
+    step(rt, "viscosity infinite", viscous(f64::INFINITY))
 }
 
 fn rates(rt: &impl Print) -> io::Result<()> {
-    step(rt, b"minus rate 0", colliding(Collision::Trt(0.0)))?;
-    step(rt, b"minus rate 2", colliding(Collision::Trt(2.0)))?;
+    step(rt, "minus rate 0", colliding(Collision::Trt(0.0)))?;
+    step(rt, "minus rate 2", colliding(Collision::Trt(2.0)))?;
     step(
         rt,
-        b"minus rate just above 2",
+        "minus rate just above 2",
         colliding(Collision::Trt(2.0000000000000004)),
     )?;
-    step(rt, b"minus rate -1", colliding(Collision::Trt(-1.0)))?;
-    step(rt, b"minus rate NaN", colliding(Collision::Trt(nan())))
+    step(rt, "minus rate -1", colliding(Collision::Trt(-1.0)))?;
+    step(rt, "minus rate NaN", colliding(Collision::Trt(f64::NAN)))
 }
 
 fn floors(rt: &impl Print) -> io::Result<()> {
-    velocity(rt, b"floor 5e-324", floored(5e-324))?;
+    velocity(rt, "floor 5e-324", floored(5e-324))?;
     velocity(
         rt,
-        b"floor 1.7976931348623157e308",
+        "floor 1.7976931348623157e308",
         floored(1.7976931348623157e308),
     )?;
-    velocity(rt, b"floor 0", floored(0.0))?;
-    velocity(rt, b"floor -5e-324", floored(-5e-324))?;
-    step(rt, b"floor 5e-324", floored(5e-324))?;
-    step(rt, b"floor infinite", floored(infinity()))
+    velocity(rt, "floor 0", floored(0.0))?;
+    velocity(rt, "floor -5e-324", floored(-5e-324))?;
+    step(rt, "floor 5e-324", floored(5e-324))?;
+    step(rt, "floor infinite", floored(f64::INFINITY))
 }
 
 // Of number 3 a reading tests the floor alone.
 fn rates_unread(rt: &impl Print) -> io::Result<()> {
-    velocity(rt, b"viscosity NaN", viscous(nan()))?;
-    velocity(rt, b"minus rate NaN", colliding(Collision::Trt(nan())))
+    velocity(rt, "viscosity NaN", viscous(f64::NAN))?;
+    velocity(rt, "minus rate NaN", colliding(Collision::Trt(f64::NAN)))
 }
 
 fn floors_unread(rt: &impl Print) -> io::Result<()> {
-    let s = floored(nan());
-    let initialize = settings::initialize_refusal(s, 18, 54);
-    show::number(rt, b"initialize_refusal", b"floor NaN", initialize)?;
-    density(rt, b"floor NaN", s, 0, 0)?;
-    let total_mass = settings::total_mass_refusal(s, 54);
-    show::number(rt, b"total_mass_refusal", b"floor NaN", total_mass)?;
-    let plane = settings::plane_refusal(s, 54, 0);
-    show::number(rt, b"plane_refusal", b"floor NaN", plane)?;
-    stream(rt, b"floor NaN", s)?;
-    lossless(rt, b"floor NaN", s)?;
-    reverse(rt, b"floor NaN", s)?;
-    let tally = settings::tally_refusal(s, 54);
-    show::number(rt, b"tally_refusal", b"floor NaN", tally)?;
-    let write_entry = settings::write_entry_refusal(s, 54, 0, 0, 0);
-    show::number(rt, b"write_entry_refusal", b"floor NaN", write_entry)?;
-    let write_checkpoint = settings::write_checkpoint_refusal(s, 54, 445);
+    let s = floored(f64::NAN);
+    let initialize = number_of(settings::check_initialize(s, 18, 54));
+    show::number(rt, "initialize_refusal", "floor NaN", initialize)?;
+    density(rt, "floor NaN", s, 0, 0)?;
+    let total_mass = number_of(settings::check_total_mass(s, 54));
+    show::number(rt, "total_mass_refusal", "floor NaN", total_mass)?;
+    let plane = number_of(settings::check_plane(s, 54, 0));
+    show::number(rt, "plane_refusal", "floor NaN", plane)?;
+    stream(rt, "floor NaN", s)?;
+    lossless(rt, "floor NaN", s)?;
+    reverse(rt, "floor NaN", s)?;
+    let tally = number_of(settings::check_tally(s, 54));
+    show::number(rt, "tally_refusal", "floor NaN", tally)?;
+    let write_entry = number_of(settings::check_write_entry(s, 54, 0, 0, 0));
+    show::number(rt, "write_entry_refusal", "floor NaN", write_entry)?;
+    let write_checkpoint = number_of(settings::check_write_checkpoint(s, 54, 445));
     show::number(
         rt,
-        b"write_checkpoint_refusal",
-        b"floor NaN",
+        "write_checkpoint_refusal",
+        "floor NaN",
         write_checkpoint,
     )
 }
 
 fn forces(rt: &impl Print) -> io::Result<()> {
-    velocity(rt, b"force NaN", forced(nan(), 0.0))?;
-    velocity(rt, b"force minus infinity", forced(-infinity(), 0.0))?;
-    density(rt, b"force NaN", forced(nan(), 0.0), 0, 0)
+    velocity(rt, "force NaN", forced(f64::NAN, 0.0))?;
+    velocity(rt, "force minus infinity", forced(-f64::INFINITY, 0.0))?;
+    density(rt, "force NaN", forced(f64::NAN, 0.0), 0, 0)
 }
 
 fn x_speeds(rt: &impl Print) -> io::Result<()> {
-    stream(rt, b"x min Velocity 1, 0", x_min(Face::Velocity(1.0, 0.0)))?;
-    stream(
-        rt,
-        b"x min Velocity -1, 0",
-        x_min(Face::Velocity(-1.0, 0.0)),
-    )?;
-    stream(rt, b"x max Velocity 1, 0", x_max(Face::Velocity(1.0, 0.0)))?;
-    stream(
-        rt,
-        b"x max Velocity -1, 0",
-        x_max(Face::Velocity(-1.0, 0.0)),
-    )
+    stream(rt, "x min Velocity 1, 0", x_min(Face::Velocity(1.0, 0.0)))?;
+    stream(rt, "x min Velocity -1, 0", x_min(Face::Velocity(-1.0, 0.0)))?;
+    stream(rt, "x max Velocity 1, 0", x_max(Face::Velocity(1.0, 0.0)))?;
+    stream(rt, "x max Velocity -1, 0", x_max(Face::Velocity(-1.0, 0.0)))
 }
 
 fn y_speeds(rt: &impl Print) -> io::Result<()> {
-    stream(rt, b"y min Velocity 0, 1", y_min(Face::Velocity(0.0, 1.0)))?;
-    stream(
-        rt,
-        b"y min Velocity 0, -1",
-        y_min(Face::Velocity(0.0, -1.0)),
-    )?;
-    stream(rt, b"y max Velocity 0, 1", y_max(Face::Velocity(0.0, 1.0)))?;
-    stream(
-        rt,
-        b"y max Velocity 0, -1",
-        y_max(Face::Velocity(0.0, -1.0)),
-    )
+    stream(rt, "y min Velocity 0, 1", y_min(Face::Velocity(0.0, 1.0)))?;
+    stream(rt, "y min Velocity 0, -1", y_min(Face::Velocity(0.0, -1.0)))?;
+    stream(rt, "y max Velocity 0, 1", y_max(Face::Velocity(0.0, 1.0)))?;
+    stream(rt, "y max Velocity 0, -1", y_max(Face::Velocity(0.0, -1.0)))
 }
 
 fn densities(rt: &impl Print) -> io::Result<()> {
-    stream(rt, b"Pressure 1", x_min(Face::Pressure(1.0)))?;
-    stream(rt, b"Pressure 0", x_min(Face::Pressure(0.0)))?;
-    stream(rt, b"Pressure -1", x_min(Face::Pressure(-1.0)))?;
-    stream(rt, b"Pressure NaN", x_min(Face::Pressure(nan())))?;
-    stream(rt, b"Pressure infinite", x_min(Face::Pressure(infinity())))?;
+    stream(rt, "Pressure 1", x_min(Face::Pressure(1.0)))?;
+    stream(rt, "Pressure 0", x_min(Face::Pressure(0.0)))?;
+    stream(rt, "Pressure -1", x_min(Face::Pressure(-1.0)))?;
+    stream(rt, "Pressure NaN", x_min(Face::Pressure(f64::NAN)))?;
     stream(
         rt,
-        b"MovingWall 0, NaN",
-        x_min(Face::MovingWall(0.0, nan())),
+        "Pressure infinite",
+        x_min(Face::Pressure(f64::INFINITY)),
+    )?;
+    stream(
+        rt,
+        "MovingWall 0, NaN",
+        x_min(Face::MovingWall(0.0, f64::NAN)),
     )
 }
 
 fn limits(rt: &impl Print) -> io::Result<()> {
-    steady(rt, b"tolerance 0, 1000000 steps", 0.0, 1000000)?;
-    steady(rt, b"tolerance 0, 1000001 steps", 0.0, 1000001)?;
-    steady(rt, b"tolerance NaN, 0 steps", nan(), 0)?;
-    steady(rt, b"tolerance infinite, 0 steps", infinity(), 0)?;
-    steady(rt, b"tolerance -1, 0 steps", -1.0, 0)
+    steady(rt, "tolerance 0, 1000000 steps", 0.0, 1000000)?;
+    steady(rt, "tolerance 0, 1000001 steps", 0.0, 1000001)?;
+    steady(rt, "tolerance NaN, 0 steps", f64::NAN, 0)?;
+    steady(rt, "tolerance infinite, 0 steps", f64::INFINITY, 0)?;
+    steady(rt, "tolerance -1, 0 steps", -1.0, 0)
 }
 
 fn places(rt: &impl Print) -> io::Result<()> {
-    density(rt, b"at 2, 1", sized(3, 2), 2, 1)?;
-    density(rt, b"at 3, 1", sized(3, 2), 3, 1)?;
-    density(rt, b"at 2, 2", sized(3, 2), 2, 2)?;
-    plane(rt, b"direction 8", 8)?;
-    plane(rt, b"direction 9", 9)
+    density(rt, "at 2, 1", sized(3, 2), 2, 1)?;
+    density(rt, "at 3, 1", sized(3, 2), 3, 1)?;
+    density(rt, "at 2, 2", sized(3, 2), 2, 2)?;
+    plane(rt, "direction 8", 8)?;
+    plane(rt, "direction 9", 9)
 }
 
 fn losses(rt: &impl Print) -> io::Result<()> {
     let mirrored = faced(Face::Symmetry, Face::Symmetry, Face::NoSlip, Face::NoSlip);
     let turned = faced(Face::NoSlip, Face::NoSlip, Face::Symmetry, Face::Symmetry);
-    lossless(rt, b"Pressure 1", x_min(Face::Pressure(1.0)))?;
-    reverse(rt, b"x Symmetry, y NoSlip", mirrored)?;
-    reverse(rt, b"x NoSlip, y Symmetry", turned)
+    lossless(rt, "Pressure 1", x_min(Face::Pressure(1.0)))?;
+    reverse(rt, "x Symmetry, y NoSlip", mirrored)?;
+    reverse(rt, "x NoSlip, y Symmetry", turned)
 }
 
 // ---- the order: all that can be refused at once, then less and less
 
 fn settling(
     rt: &impl Print,
-    case: &[u8],
+    case: &str,
     s: Settings,
     tolerance: f64,
     steps: u64,
     u: usize,
 ) -> io::Result<()> {
-    let number = settings::run_to_steady_state_refusal(s, tolerance, steps, 54, 54, u);
-    show::number(rt, b"run_to_steady_state_refusal", case, number)
+    let number = number_of(settings::check_run_to_steady_state(s, tolerance, steps, 54, 54, u));
+    show::number(rt, "run_to_steady_state_refusal", case, number)
 }
 
 fn steady_order(rt: &impl Print) -> io::Result<()> {
     let mut s = x_min(Face::Pressure(0.0));
     s.nx = 0;
-    s.nu = nan();
-    s.fx = nan();
-    settling(rt, b"all wrong", s, nan(), 1000001, 11)?;
+    s.nu = f64::NAN;
+    s.fx = f64::NAN;
+    settling(rt, "all wrong", s, f64::NAN, 1000001, 11)?;
     s.nx = 3;
-    settling(rt, b"all wrong but sides", s, nan(), 1000001, 11)?;
-    settling(rt, b"but sides and lengths", s, nan(), 1000001, 12)?;
+    settling(rt, "all wrong but sides", s, f64::NAN, 1000001, 11)?;
+    settling(rt, "but sides and lengths", s, f64::NAN, 1000001, 12)?;
     s.nu = 0.1;
-    settling(rt, b"but sides to rates", s, nan(), 1000001, 12)?;
+    settling(rt, "but sides to rates", s, f64::NAN, 1000001, 12)?;
     s.fx = 0.0;
-    settling(rt, b"but sides to force", s, nan(), 1000001, 12)?;
-    steady(rt, b"but sides to faces", nan(), 1000001)?;
-    steady(rt, b"only steps wrong", 0.0, 1000001)?;
-    steady(rt, b"nothing wrong", 0.0, 1000000)
+    settling(rt, "but sides to force", s, f64::NAN, 1000001, 12)?;
+    steady(rt, "but sides to faces", f64::NAN, 1000001)?;
+    steady(rt, "only steps wrong", 0.0, 1000001)?;
+    steady(rt, "nothing wrong", 0.0, 1000000)
 }
 
-fn reversing(rt: &impl Print, case: &[u8], s: Settings, post: usize) -> io::Result<()> {
+fn reversing(rt: &impl Print, case: &str, s: Settings, post: usize) -> io::Result<()> {
     show::number(
         rt,
-        b"reverse_refusal",
+        "reverse_refusal",
         case,
-        settings::reverse_refusal(s, 54, post),
+        number_of(settings::check_reverse(s, 54, post)),
     )
 }
 
@@ -285,20 +281,20 @@ fn reverse_order(rt: &impl Print) -> io::Result<()> {
         Face::NoSlip,
     );
     s.nx = 0;
-    reversing(rt, b"all wrong", s, 53)?;
+    reversing(rt, "all wrong", s, 53)?;
     s.nx = 3;
-    reversing(rt, b"all wrong but sides", s, 53)?;
-    reversing(rt, b"but sides and lengths", s, 54)?;
+    reversing(rt, "all wrong but sides", s, 53)?;
+    reversing(rt, "but sides and lengths", s, 54)?;
     let driven = faced(
         Face::Pressure(1.0),
         Face::Periodic,
         Face::NoSlip,
         Face::NoSlip,
     );
-    reversing(rt, b"but sides to face numbers", driven, 54)?;
+    reversing(rt, "but sides to face numbers", driven, 54)?;
     let unpaired = faced(Face::NoSlip, Face::Periodic, Face::NoSlip, Face::NoSlip);
-    reversing(rt, b"only losses wrong", unpaired, 54)?;
-    reversing(rt, b"nothing wrong", sized(3, 2), 54)
+    reversing(rt, "only losses wrong", unpaired, 54)?;
+    reversing(rt, "nothing wrong", sized(3, 2), 54)
 }
 
 pub fn all(rt: &impl Print) -> io::Result<()> {

@@ -1,140 +1,134 @@
 // Each operation, called on lent buffers full of canaries. What is lent as `&` cannot be written; the rest is looked at.
-use lossless::Answer;
 use runs::Steady;
-use settings::Settings;
-use show::{CANARY, kept, same, zero};
+use settings::{Refusal, Settings, number_of};
+use show::{CANARY, kept};
 use std::io;
+
+// Of a refused call that answers a value: it has none, for which hosts are given zeros.
+fn answered<T: Copy>(
+    rt: &impl Print,
+    operation: &str,
+    case: &str,
+    answer: Result<T, Refusal>,
+) -> io::Result<()> {
+    show::refused(
+        rt,
+        operation,
+        case,
+        number_of(answer),
+        answer.is_err(),
+        ", zero",
+    )
+}
 
 pub fn initialize(
     rt: &impl Print,
-    case: &[u8],
+    case: &str,
     s: Settings,
     table: &[u64],
     f: &mut [u64],
 ) -> io::Result<()> {
-    let number = readings::initialize(s, table, f);
-    show::left(rt, b"initialize", case, number, kept(f))
+    let number = number_of(readings::initialize(s, table, f));
+    show::refused(rt, "initialize", case, number, kept(f), ", left")
 }
 
 pub fn density(
     rt: &impl Print,
-    case: &[u8],
+    case: &str,
     s: Settings,
     f: &[u64],
     x: usize,
     y: usize,
 ) -> io::Result<()> {
-    let r = readings::density(s, f, x, y);
-    show::zeros(rt, b"density", case, r.number, zero(r.value))
+    answered(rt, "density", case, readings::density(s, f, x, y))
 }
 
 pub fn velocity(
     rt: &impl Print,
-    case: &[u8],
+    case: &str,
     s: Settings,
     f: &[u64],
     x: usize,
     y: usize,
 ) -> io::Result<()> {
-    let r = readings::velocity(s, f, x, y);
-    show::zeros(rt, b"velocity", case, r.number, zero(r.ux) & zero(r.uy))
+    answered(rt, "velocity", case, readings::velocity(s, f, x, y))
 }
 
 pub fn velocity_field(
     rt: &impl Print,
-    case: &[u8],
+    case: &str,
     s: Settings,
     f: &[u64],
     u: &mut [u64],
 ) -> io::Result<()> {
-    let number = readings::velocity_field(s, f, u);
-    show::left(rt, b"velocity_field", case, number, kept(u))
+    let number = number_of(readings::velocity_field(s, f, u));
+    show::refused(rt, "velocity_field", case, number, kept(u), ", left")
 }
 
-pub fn total_mass(rt: &impl Print, case: &[u8], s: Settings, f: &[u64]) -> io::Result<()> {
-    let r = readings::total_mass(s, f);
-    show::zeros(rt, b"total_mass", case, r.number, zero(r.value))
+pub fn total_mass(rt: &impl Print, case: &str, s: Settings, f: &[u64]) -> io::Result<()> {
+    answered(rt, "total_mass", case, readings::total_mass(s, f))
 }
 
-pub fn kinetic_energy(rt: &impl Print, case: &[u8], s: Settings, f: &[u64]) -> io::Result<()> {
-    let r = readings::kinetic_energy(s, f);
-    show::zeros(rt, b"kinetic_energy", case, r.number, zero(r.value))
+pub fn kinetic_energy(rt: &impl Print, case: &str, s: Settings, f: &[u64]) -> io::Result<()> {
+    answered(rt, "kinetic_energy", case, readings::kinetic_energy(s, f))
 }
 
-// The question beside the plane has the number, the plane is an empty part.
-pub fn plane(rt: &impl Print, case: &[u8], s: Settings, f: &[u64], i: usize) -> io::Result<()> {
+pub fn plane(rt: &impl Print, case: &str, s: Settings, f: &[u64], i: usize) -> io::Result<()> {
     let part = readings::plane(s, f, i);
-    show::gives(rt, b"plane", case, readings::plane_refusal(s, f, i))?;
-    show::holds(rt, part.len() == 0, b", empty")?;
-    show::newline(rt)
+    show::refused(rt, "plane", case, number_of(part), part.is_err(), ", empty")
 }
 
 pub fn stream_with_faces(
     rt: &impl Print,
-    case: &[u8],
+    case: &str,
     s: Settings,
     post: &[u64],
     f: &mut [u64],
 ) -> io::Result<()> {
-    let number = streaming::stream_with_faces(s, post, f);
-    show::left(rt, b"stream_with_faces", case, number, kept(f))
+    let number = number_of(streaming::stream_with_faces(s, post, f));
+    show::refused(rt, "stream_with_faces", case, number, kept(f), ", left")
 }
 
-fn lossless_number(a: Answer) -> u32 {
-    match a {
-        Answer::Refused(number) => number,
-        Answer::Lossless => 0,
-        Answer::Lossy(_, _, _) => 0,
-    }
-}
-
-pub fn lossless(rt: &impl Print, case: &[u8], s: Settings) -> io::Result<()> {
-    show::number(
-        rt,
-        b"lossless",
-        case,
-        lossless_number(lossless::lossless(s)),
-    )
+pub fn lossless(rt: &impl Print, case: &str, s: Settings) -> io::Result<()> {
+    show::number(rt, "lossless", case, number_of(lossless::lossless(s)))
 }
 
 pub fn reverse(
     rt: &impl Print,
-    case: &[u8],
+    case: &str,
     s: Settings,
     f: &[u64],
     post: &mut [u64],
 ) -> io::Result<()> {
-    let number = lossless::reverse(s, f, post);
-    show::left(rt, b"reverse", case, number, kept(post))
+    let number = number_of(lossless::reverse(s, f, post));
+    show::refused(rt, "reverse", case, number, kept(post), ", left")
 }
 
 pub fn step(
     rt: &impl Print,
-    case: &[u8],
+    case: &str,
     s: Settings,
     f: &mut [u64],
     post: &mut [u64],
 ) -> io::Result<()> {
-    let number = runs::step(s, f, post);
-    show::left(rt, b"step", case, number, kept(f) & kept(post))
+    let number = number_of(runs::step(s, f, post));
+    show::refused(rt, "step", case, number, kept(f) & kept(post), ", left")
 }
 
 pub fn run(
     rt: &impl Print,
-    case: &[u8],
+    case: &str,
     s: Settings,
     steps: u64,
     f: &mut [u64],
     post: &mut [u64],
 ) -> io::Result<()> {
-    let number = runs::run(s, steps, f, post);
-    show::left(rt, b"run", case, number, kept(f) & kept(post))
+    let number = number_of(runs::run(s, steps, f, post));
+    show::refused(rt, "run", case, number, kept(f) & kept(post), ", left")
 }
 
-pub fn tally(rt: &impl Print, case: &[u8], s: Settings, f: &[u64]) -> io::Result<()> {
-    let r = tally::tally(s, f);
-    let t = r.tally;
-    show::zeros(rt, b"tally", case, r.number, same(&t, &[0; 10]))
+pub fn tally(rt: &impl Print, case: &str, s: Settings, f: &[u64]) -> io::Result<()> {
+    answered(rt, "tally", case, tally::tally(s, f))
 }
 
 // Of an array that was lent, the prover knows the length by its type alone.
@@ -144,7 +138,7 @@ fn ten_kept(t: &[u64; 10]) -> bool {
 
 pub fn write_entry(
     rt: &impl Print,
-    case: &[u8],
+    case: &str,
     s: Settings,
     x: usize,
     y: usize,
@@ -152,22 +146,28 @@ pub fn write_entry(
     f: &mut [u64],
 ) -> io::Result<()> {
     let mut t = [CANARY; 10];
-    let number = tally::write_entry(s, x, y, i, 1, f, &mut t);
-    show::left(rt, b"write_entry", case, number, kept(f) & ten_kept(&t))
+    let number = number_of(tally::write_entry(s, x, y, i, 1, f, &mut t));
+    show::refused(
+        rt,
+        "write_entry",
+        case,
+        number,
+        kept(f) & ten_kept(&t),
+        ", left",
+    )
 }
 
-pub fn steady_number(a: Steady) -> u32 {
-    match a {
-        Steady::Refused(number) => number,
-        Steady::Settled(_, _) => 0,
-        Steady::RanOut(_, _) => 0,
-        Steady::Ruined(_) => 9,
+pub fn steady_number(answer: Result<Steady, Refusal>) -> u32 {
+    match answer {
+        Ok(Steady::Ruined(_)) => 9,
+        Ok(_) => 0,
+        Err(why) => why.number(),
     }
 }
 
 pub fn steady(
     rt: &impl Print,
-    case: &[u8],
+    case: &str,
     s: Settings,
     tolerance: f64,
     steps: u64,
@@ -176,11 +176,13 @@ pub fn steady(
     u: &mut [u64],
 ) -> io::Result<()> {
     let a = runs::run_to_steady_state(s, tolerance, steps, 1, f, post, u);
-    show::left(
+    let all = kept(f) & kept(post) & kept(u);
+    show::refused(
         rt,
-        b"run_to_steady_state",
+        "run_to_steady_state",
         case,
         steady_number(a),
-        kept(f) & kept(post) & kept(u),
+        all,
+        ", left",
     )
 }

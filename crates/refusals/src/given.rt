@@ -2,84 +2,57 @@
 use cell::Collision;
 use settings::{Face, Settings};
 
-pub fn nan() -> f64 {
-    0.0 / 0.0
-}
-
-pub fn infinity() -> f64 {
-    1.0 / 0.0
-}
-
-fn study(
-    nx: usize,
-    ny: usize,
-    collision: Collision,
-    x_min: Face,
-    x_max: Face,
-    y_min: Face,
-    y_max: Face,
-) -> Settings {
+pub fn sized(nx: usize, ny: usize) -> Settings {
     Settings {
         nx,
         ny,
         nu: 0.1,
         fx: 0.0,
         fy: 0.0,
-        collision,
-        x_min,
-        x_max,
-        y_min,
-        y_max,
+        collision: Collision::Bgk,
+        x_min: Face::Periodic,
+        x_max: Face::Periodic,
+        y_min: Face::Periodic,
+        y_max: Face::Periodic,
         floor: 1e-12,
     }
 }
 
-pub fn sized(nx: usize, ny: usize) -> Settings {
-    study(
-        nx,
-        ny,
-        Collision::Bgk,
-        Face::Periodic,
-        Face::Periodic,
-        Face::Periodic,
-        Face::Periodic,
-    )
-}
-
 // On 3 by 2, as all that follow.
 pub fn viscous(nu: f64) -> Settings {
-    let mut s = sized(3, 2);
-    s.nu = nu;
-    s
+    Settings { nu, ..sized(3, 2) }
 }
 
 pub fn floored(floor: f64) -> Settings {
-    let mut s = sized(3, 2);
-    s.floor = floor;
-    s
+    Settings {
+        floor,
+        ..sized(3, 2)
+    }
 }
 
 pub fn forced(fx: f64, fy: f64) -> Settings {
-    let mut s = sized(3, 2);
-    s.fx = fx;
-    s.fy = fy;
-    s
+    Settings {
+        fx,
+        fy,
+        ..sized(3, 2)
+    }
 }
 
 pub fn colliding(collision: Collision) -> Settings {
-    study(
-        3,
-        2,
+    Settings {
         collision,
-        Face::Periodic,
-        Face::Periodic,
-        Face::Periodic,
-        Face::Periodic,
-    )
+        ..sized(3, 2)
+    }
 }
 
 pub fn faced(x_min: Face, x_max: Face, y_min: Face, y_max: Face) -> Settings {
-    study(3, 2, Collision::Bgk, x_min, x_max, y_min, y_max)
+    Settings {
+        x_min,
+        x_max,
+        y_min,
+        y_max,
+        ..sized(3, 2)
+    }
 }
 
 // One face, and three that stand still.

@@ -11,10 +11,8 @@ use Rattle.cell.specs.Cell.{density_of, read_moments}
 use Rattle.settings.specs.declared.Settings.{Settings}
 use Rattle.settings.proofs.Laws.{or_left, or_right}
 use Rattle.readings.specs.Readings.{density_at, velocity_at}
-use Rattle.runs.specs.declared.steady.Steady.{Steady}
-use Rattle.runs.specs.declared.steady.Steady.TheVariants.{Settled, Ruined}
 use Rattle.runs.specs.Steps.{State, state, steps}
-use Rattle.runs.specs.Steady.{checks_of, some_of, bad_cell, bad_snapshot, SteadyRun, steady_of}
+use Rattle.runs.specs.Steady.{Ending, Settled, Ruined, checks_of, some_of, bad_cell, bad_snapshot, SteadyRun, steady_of}
 use Rattle.runs.proofs.Tied.{Tells, tied, no_bad_cell}
 
 -- cell c of the populations f: what `density` and `velocity` answer of it is finite
@@ -73,7 +71,7 @@ module _ (s : Settings) (tolerance : Float) (most every : ℕ) (f post u : List 
   pub ruined_not_finite : (k : ℕ) → outcome.answer ≡ Ruined k → FiniteCells s outcome.f → ⊥
   unfolding bad_snapshot
   ruined_not_finite k e h =
-      let so = subst (λ (a : Steady). Tells s (checks_of tolerance most every) (state f post) u a outcome) e (tied s tolerance most every f post u).tells in
+      let so = subst (λ (a : Ending). Tells s (checks_of tolerance most every) (state f post) u a outcome) e (tied s tolerance most every f post u).tells in
       true≢false (sym so.bad ∙ none_of_all (bad_cell s outcome.f) (s.nx * s.ny) (λ c l. not_bad s outcome.f c (h c l)))
 
   -- so a run that is finite after each number of steps is never called ruined

@@ -5,26 +5,29 @@ use mathlib.Core.List.{List}
 use Prim.Native.Nat.{ℕ, suc, ◌+◌, ◌*◌, ◌-◌, ◌≤◌, ◌<◌}
 use native.Mathlib.Numerals.{add-one}
 use native.Mathlib.Omega.{arith}
-use borrow.Author.Rules.{rules}
-use borrow.Author.Tests.{not-true, not-false}
 use lib.ListN.{length}
-use lib.Ieee.{Float, lt, div, of_bits}
-use Rattle.number.specs.Number.{c0, c1, infinity, ◌⊘◌}
-use Rattle.cell.proofs.Cells.{tested}
+use lib.Ieee.{Float, lt, div, of_bits, binary64}
+use Rattle.number.specs.Number.{infinity}
 use Rattle.settings.specs.declared.Settings.{Settings}
 use Rattle.settings.specs.Refusals as Call
 use Rattle.settings.specs.Refusals.{refusal}
 use Rattle.settings.proofs.Laws.{known}
+use Rattle.settings.proofs.Numbers.{some_number}
 use Rattle.settings.proofs.Outcome.{answered, refused}
+use Rattle.settings.specs.Refused.{number}
+use Rattle.settings.specs.declared.refused.Refusal.{Refusal}
+use Rattle.std.specs.Prelude.{Result}
+use Rattle.std.specs.Result.{IsErrAnd}
+use Rattle.std.proofs.lemmas.Result.{err_from_is_err_and}
 use Rattle.readings.specs.Readings.{velocity_buffer}
 use Rattle.runs.specs.declared.steady.Checks.{Checks}
+use Rattle.runs.specs.declared.steady.Steady.{Steady}
 use Rattle.runs.specs.declared.steady.Check.{Check}
 use Rattle.runs.specs.declared.steady.Check.TheVariants.{Bad, Settles, GoesOn}
-use Rattle.runs.specs.declared.steady.Steady.TheVariants.{Refused, Settled, RanOut, Ruined}
 use Rattle.runs.specs.Passes.{AllReady, Vouched, clear_after}
 use Rattle.runs.specs.Steps.{State, state, one_step, steps}
-use Rattle.runs.specs.Steady.{checks_of, bad_snapshot, residual_of, checked, found, check_of, SteadyRun, ended, verdict, onward, started, settling, steady_of}
-use Rattle.runs.proofs.Stepwise.{first_told, Going, going_none, going_more}
+use Rattle.runs.specs.Steady.{Refused, Settled, RanOut, Ruined, checks_of, bad_snapshot, residual_of, checked, found, check_of, SteadyRun, ending_of, ended, verdict, onward, started, settling, steady_of}
+use Rattle.runs.proofs.Stepwise.{Going, going_none, going_more}
 
 -- ---- the check after step k: what was found of it, one test after the other
 
@@ -47,9 +50,7 @@ module _ (s : Settings) (checks : Checks) (k : ℕ) (r : Float) (f u : List ℕ)
       unfolding check_of
       goes_on above = rw (due, good, ← qs, above, news)
 
-pub ruleset checking = (not_due, is_bad, settles, goes_on, tested, not-true, not-false, rules)
-
-infinite : c1 ⊘ c0 ≡ infinity
+infinite : of_bits binary64 0x7ff0_0000_0000_0000 ≡ infinity
 unfolding div of_bits
 infinite = refl
 
@@ -65,7 +66,7 @@ module _ (s : Settings) (checks : Checks) where
   abbrev most : ℕ
   most = checks.max_steps
 
-  pub begun : {f post u : List ℕ} {finite : Bool} → AllReady s f post u → Vouched finite f → Underway s checks (state f post) u f post u (c1 ⊘ c0) finite 0
+  pub begun : {f post u : List ℕ} {finite : Bool} → AllReady s f post u → Vouched finite f → Underway s checks (state f post) u f post u (of_bits binary64 0x7ff0_0000_0000_0000) finite 0
   begun a v =
       let z : most - 0 ≡ most = omega arith in
       record { going = going_none a.ready v; u_size = a.u_size; whole = rw (z, infinite) }
@@ -106,8 +107,6 @@ module _ (s : Settings) (checks : Checks) where
         pub on : {q : Float} → c ≡ GoesOn q → length u' ≡ length u → Underway s checks b u₀ f' post' u' q finite' (k + 1)
         on e us = record { going = stepped; u_size = us ∙ way.u_size; whole = rw e at turn }
 
-pub ruleset turning = (begun, first_told, ran_out, ruined, settled, rules)
-
 -- ---- the whole run, where the first snapshot is bad and where it is not
 
 module _ (s : Settings) (checks : Checks) (b : State) (u : List ℕ) where
@@ -120,21 +119,32 @@ module _ (s : Settings) (checks : Checks) (b : State) (u : List ℕ) where
   unfolding settling
   ran_on good news e = rw (good, ← news) e
 
-pub ruleset beginning = (ruined_first, ran_on, tested, rules)
+-- ---- the outcome of `run_to_steady_state`
 
--- ---- the outcome of `run_to_steady_state`, where the code found the number n
+module _ (s : Settings) (tolerance : Float) (most every : ℕ) (f post u : List ℕ) where
+  abbrev number_found : ℕ
+  number_found = refusal (Call.run_to_steady_state s tolerance most (length f) (length post) (length u))
 
-module _ (s : Settings) (tolerance : Float) (most every : ℕ) (f post u : List ℕ) {n : ℕ} (e : n ≡ refusal (Call.run_to_steady_state s tolerance most (length f) (length post) (length u))) where
-  pub is_refused : (n ≡ 0 → ⊥) → ended (Refused n) (state f post) u ≡ steady_of s tolerance most every f post u
+  -- where the code found the number n
+  pub is_refused : {n : ℕ} → n ≡ number_found → (n ≡ 0 → ⊥) → ended (Refused n) (state f post) u ≡ steady_of s tolerance most every f post u
   unfolding steady_of
-  is_refused h = refused _ (λ n. ended (Refused n) (state f post) u) e h
+  is_refused e h = refused _ (λ n. ended (Refused n) (state f post) u) e h
 
-  module _ (h : n ≡ 0) where
+  -- at the exit of the `?`
+  pub is_ended : (r : Result Steady Refusal) (why : Refusal) → IsErrAnd r (λ e. e ≡ why) → number why ≡ number_found
+      → ended (ending_of r) (state f post) u ≡ steady_of s tolerance most every f post u
+  is_ended r why is e =
+      let p = err_from_is_err_and r is in
+      let some = some_number why in
+      rw (p.1, p.2) (is_refused e (λ zero. absurd (omega arith)))
+
+  -- and past it
+  module _ (e : 0 ≡ number_found) where
     pub settle_ready : AllReady s f post u
     settle_ready =
-        let q = known (Call.run_to_steady_state s tolerance most (length f) (length post) (length u)) (sym e ∙ h) in
+        let q = known (Call.run_to_steady_state s tolerance most (length f) (length post) (length u)) (sym e) in
         record { ready = record { grid = q.0; f_size = q.1.0.size; post_size = q.1.1.0.size }; u_size = q.1.1.1.0.size }
 
     pub is_run : {o : SteadyRun} → o ≡ settling s (checks_of tolerance most every) (state f post) u → o ≡ steady_of s tolerance most every f post u
     unfolding steady_of
-    is_run so = answered _ e h so
+    is_run so = answered _ e refl so

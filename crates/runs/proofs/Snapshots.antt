@@ -6,7 +6,6 @@ use Prim.Native.Nat.{ℕ, suc, ◌+◌, ◌*◌, ◌/◌, ◌%◌, ◌≤◌, �
 use native.Mathlib.Nat.{le_antisymm}
 use native.Mathlib.Numerals.{add-one}
 use native.Mathlib.Omega.{arith}
-use borrow.Author.Rules.{rules}
 use lib.ListN.{length, get_or}
 use lib.Ieee.{Float}
 use Rattle.number.specs.Number.{c0, larger_of}
@@ -39,8 +38,6 @@ module _ {s : Settings} {f : List ℕ} where
   pub judged_all : {bad : Bool} {c : ℕ} → Judging s f (s.nx * s.ny) bad c → s.nx * s.ny ≤ c → bad ≡ bad_snapshot s f
   unfolding bad_snapshot
   judged_all j h = rw (le_antisymm j.low h) at j.is
-
-pub ruleset judging = (judged_none, judged_more, judged_all, rules)
 
 -- ---- taking
 
@@ -97,5 +94,3 @@ module _ (s : Settings) (f last : List ℕ) where
     pub residual_is : {r : Float} → r ≡ ratio max.du max.umax → r ≡ residual_of s f last
     unfolding residual_of
     residual_is e = let c≡n = le_antisymm t.low h in e ∙ rw (t.du, t.umax, c≡n)
-
-pub ruleset taking = (taken_none, taken_more, taken_all, residual_is, rules)

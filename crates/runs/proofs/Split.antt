@@ -57,12 +57,12 @@ module _ (s : Settings) (a b : ℕ) (f post : List ℕ) (few : a + b ≤ most_st
       go : Dec (number ≡ 0) → run_of s (a + b) f post ≡ run_of s b (run_of s a f post).f (run_of s a f post).post
       go (yes z) =
           let x = steps s a (state f post) in
-          let r = may_run s a f post refl z in
+          let r = may_run s a f post (sym z) in
           let q = steps_ready s a (state f post) r in
           let fs : length f ≡ length x.f = r.f_size ∙ sym q.f_size in
           let ps : length post ≡ length x.post = r.post_size ∙ sym q.post_size in
           let same : refusal (Call.run s b (length f) (length post)) ≡ refusal (Call.run s b (length x.f) (length x.post)) = rw (fs, ps) in
-          sym (ran s (a + b) f post whole z refl)
-          ∙ ran s b x.f x.post (rest ∙ same) z (steps_add s a b (state f post))
-          ∙ on_what_it_left (ran s a f post refl z refl)
+          sym (ran s (a + b) f post (sym z ∙ whole) refl)
+          ∙ ran s b x.f x.post (sym z ∙ rest ∙ same) (steps_add s a b (state f post))
+          ∙ on_what_it_left (ran s a f post (sym z) refl)
       go (no d) = sym (kept s (a + b) whole d) ∙ kept s b rest d ∙ on_what_it_left (kept s a refl d)

@@ -6,8 +6,6 @@ use Prim.Native.Nat.{ℕ, ◌+◌, ◌≤◌, ◌<◌}
 use native.Mathlib.Nat.{le_antisymm}
 use native.Mathlib.Numerals.{add-one}
 use native.Mathlib.Omega.{arith}
-use borrow.Author.Rules.{rules}
-use borrow.Author.Tests.{ne_eqb}
 use lib.ListN.{length}
 use Rattle.number.specs.Joined.{clear_of}
 use Rattle.grid.specs.Finite.{joined_buffer}
@@ -17,6 +15,13 @@ use Rattle.settings.specs.declared.Settings.{Settings}
 use Rattle.settings.specs.Refusals as Call
 use Rattle.settings.specs.Refusals.{refusal}
 use Rattle.settings.specs.Outcome.{answer}
+use Rattle.settings.specs.Refused.{number, number_of}
+use Rattle.settings.specs.declared.refused.Refusal.{Refusal}
+use borrow.Author.Tests.{ne_eqb}
+use Rattle.settings.proofs.Numbers.{some_number}
+use Rattle.std.proofs.lemmas.Result.{err_from_is_err_and}
+use Rattle.std.specs.Prelude.{Result}
+use Rattle.std.specs.Result.{IsErrAnd}
 use Rattle.settings.proofs.Laws.{known}
 use Rattle.streaming.specs.Streaming.{next_buffer}
 use Rattle.streaming.specs.Turned.{carried}
@@ -87,29 +92,32 @@ module _ {s : Settings} {n : ℕ} where
   pub going_done : {b : State} {f post : List ℕ} {finite : Bool} {k : ℕ} → Going s n b f post finite k → n ≤ k → state f post ≡ steps s n b
   going_done g h = rw (le_antisymm g.low h) at g.reached
 
-pub ruleset going = (first_told, going_none, going_more, going_done, rules)
-
 -- ---- the outcomes of `step` and `run`, where the code found the number n and the rules give m
 
 pub kept : (s : Settings) (k : ℕ) {n m : ℕ} {f post : List ℕ} → n ≡ m → (n ≡ 0 → ⊥) → left n f post ≡ ran_for m s k f post
 unfolding answer
 kept s k {n} e h = rw (← e, ne_eqb n 0 h)
 
-pub ran : (s : Settings) (k : ℕ) (f post : List ℕ) {n m : ℕ} {f' post' : List ℕ} → n ≡ m → n ≡ 0 → state f' post' ≡ steps s k (state f post)
+pub ran : (s : Settings) (k : ℕ) (f post : List ℕ) {m : ℕ} {f' post' : List ℕ} → 0 ≡ m → state f' post' ≡ steps s k (state f post)
     → left 0 f' post' ≡ ran_for m s k f post
 unfolding answer
-ran s k f post {n} {m} e h q =
-    let z : m ≡ 0 = sym e ∙ h in rw z (λ i. left 0 (q i).f (q i).post)
+ran s k f post e q = rw (sym e) (λ i. left 0 (q i).f (q i).post)
+
+-- the first at the exit of a `?`
+pub kept_by : (s : Settings) (k : ℕ) (f post : List ℕ) (r : Result Unit Refusal) (why : Refusal) {m : ℕ} → IsErrAnd r (λ e. e ≡ why) → number why ≡ m
+    → left (number_of r) f post ≡ ran_for m s k f post
+kept_by s k f post r why is e =
+    let p = err_from_is_err_and r is in
+    let some = some_number why in
+    rw (p.1, p.2) (kept s k e (λ zero. absurd (omega arith)))
 
 -- what is known where they are not refused
-pub may_step : (s : Settings) (f post : List ℕ) {n : ℕ} → n ≡ refusal (Call.step s (length f) (length post)) → n ≡ 0 → Ready s f post
-may_step s f post e h =
-    let q = known (Call.step s (length f) (length post)) (sym e ∙ h) in
+pub may_step : (s : Settings) (f post : List ℕ) → 0 ≡ refusal (Call.step s (length f) (length post)) → Ready s f post
+may_step s f post e =
+    let q = known (Call.step s (length f) (length post)) (sym e) in
     record { grid = q.0; f_size = q.1.0.size; post_size = q.1.1.0.size }
 
-pub may_run : (s : Settings) (k : ℕ) (f post : List ℕ) {n : ℕ} → n ≡ refusal (Call.run s k (length f) (length post)) → n ≡ 0 → Ready s f post
-may_run s k f post e h =
-    let q = known (Call.run s k (length f) (length post)) (sym e ∙ h) in
+pub may_run : (s : Settings) (k : ℕ) (f post : List ℕ) → 0 ≡ refusal (Call.run s k (length f) (length post)) → Ready s f post
+may_run s k f post e =
+    let q = known (Call.run s k (length f) (length post)) (sym e) in
     record { grid = q.0; f_size = q.1.0.size; post_size = q.1.1.0.size }
-
-pub ruleset outcome = (kept, ran, rules)

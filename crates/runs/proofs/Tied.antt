@@ -1,5 +1,5 @@
 -- What the answer of a steady run tells of the state: the buffers are those after the number of steps that it tells, and no settled answer stands over a bad cell.
-use mathlib.Core.Path.{◌≡◌, refl, subst}
+use mathlib.Core.Path.{◌≡◌, sym, refl, subst}
 use mathlib.Core.Bool.{Bool, true, false}
 use mathlib.Core.List.{List}
 use Prim.Native.Nat.{ℕ, zero, suc, ◌+◌, ◌*◌, ◌≤◌, ◌<◌}
@@ -16,10 +16,8 @@ use Rattle.readings.specs.Readings.{velocity_buffer}
 use Rattle.runs.specs.declared.steady.Checks.{Checks}
 use Rattle.runs.specs.declared.steady.Check.{Check}
 use Rattle.runs.specs.declared.steady.Check.TheVariants.{Bad, Settles, GoesOn}
-use Rattle.runs.specs.declared.steady.Steady.{Steady}
-use Rattle.runs.specs.declared.steady.Steady.TheVariants.{Refused, Settled, RanOut, Ruined}
 use Rattle.runs.specs.Steps.{State, state, steps}
-use Rattle.runs.specs.Steady.{checks_of, some_of, bad_cell, bad_snapshot, residual_of, checked, Checked, check_of, SteadyRun, verdict, onward, settling, steady_of}
+use Rattle.runs.specs.Steady.{Ending, Refused, Settled, RanOut, Ruined, checks_of, some_of, bad_cell, bad_snapshot, residual_of, checked, Checked, check_of, SteadyRun, verdict, onward, settling, steady_of}
 use Rattle.runs.proofs.Stepwise.{no_step}
 use Rattle.runs.proofs.Settling.{not_due, is_bad, settles, goes_on, ruined_first, ran_on, is_refused, is_run}
 
@@ -38,7 +36,7 @@ module _ (s : Settings) (checks : Checks) (b : State) (u₀ : List ℕ) where
     pub bad : bad_snapshot s o.f ≡ true
     pub untouched : k ≡ 0 → o.u ≡ u₀
 
-  abbrev pub Tells : Steady → SteadyRun → Type 0
+  abbrev pub Tells : Ending → SteadyRun → Type 0
   Tells (Refused number) o = o.u ≡ u₀
   Tells (Settled k r) o = SettledSo k r o.f o.u
   Tells (RanOut k r) o = k ≡ checks.max_steps
@@ -103,7 +101,7 @@ module _ (s : Settings) (tolerance : Float) (most every : ℕ) (f post u : List 
   tied = go (ℕ_discrete number 0)
     where
       go : Dec (number ≡ 0) → Tied s (checks_of tolerance most every) (state f post) u (steady_of s tolerance most every f post u)
-      go (yes z) = subst (Tied s (checks_of tolerance most every) (state f post) u) (is_run s tolerance most every f post u refl z refl) (settling_tied s (checks_of tolerance most every) (state f post) u)
+      go (yes z) = subst (Tied s (checks_of tolerance most every) (state f post) u) (is_run s tolerance most every f post u (sym z) refl) (settling_tied s (checks_of tolerance most every) (state f post) u)
       go (no d) = subst (Tied s (checks_of tolerance most every) (state f post) u) (is_refused s tolerance most every f post u refl d) (record { reached = no_step s (state f post); within = omega arith; tells = refl })
 
 -- ---- no settled answer stands over a bad cell
@@ -119,5 +117,5 @@ pub no_bad_cell : (s : Settings) (tolerance : Float) (most every : ℕ) (f post 
 unfolding bad_snapshot
 no_bad_cell s tolerance most every f post u k r e c h =
     let o = steady_of s tolerance most every f post u in
-    let so = subst (λ (a : Steady). Tells s (checks_of tolerance most every) (state f post) u a o) e (tied s tolerance most every f post u).tells in
+    let so = subst (λ (a : Ending). Tells s (checks_of tolerance most every) (state f post) u a o) e (tied s tolerance most every f post u).tells in
     none_of (bad_cell s o.f) (s.nx * s.ny) so.good c h

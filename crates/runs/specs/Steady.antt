@@ -1,22 +1,39 @@
 -- The steady run.
-use Rattle.std.specs.Prelude.{Bool, true, false, cond, ◌||◌, List, ℕ, zero, suc, ◌*◌, ◌%◌, eqb, length, get_or, Float}
+use Rattle.std.specs.Prelude.{Bool, true, false, cond, ◌||◌, List, ℕ, zero, suc, ◌*◌, ◌%◌, eqb, length, get_or, Float, Result, Ok, Err}
 use Rattle.std.specs.Float.Ieee.{lt}
 use Rattle.number.specs.Number.{value_of, c0, infinity, not_finite, magnitude_of, larger_of, ◌⊖◌, ◌⊘◌}
 use Rattle.settings.specs.declared.Settings.{Settings}
 use Rattle.settings.specs.Refusals as Refusals
 use Rattle.settings.specs.Refusals.{refusal}
 use Rattle.settings.specs.Outcome.{answer}
+use Rattle.settings.specs.Refused.{number}
+use Rattle.settings.specs.declared.refused.Refusal.{Refusal}
 use Rattle.readings.specs.Readings.{velocity_at, component_at, velocity_buffer}
 use Rattle.runs.specs.declared.steady.Check.{Check}
 use Rattle.runs.specs.declared.steady.Check.TheVariants.{Bad, Settles, GoesOn}
 use Rattle.runs.specs.declared.steady.Checks.{Checks}
 use Rattle.runs.specs.declared.steady.Steady.{Steady}
-use Rattle.runs.specs.declared.steady.Steady.TheVariants.{Refused, Settled, RanOut, Ruined}
 use Rattle.runs.specs.Steps.{State, state, steps}
 
 -- ---- the answer: the number and the values of each case
 
-abbrev pub steady_number : Steady → ℕ
+-- refused by a number; settled or run out, with the number of steps and the residual; ruined, with the number of steps
+pub data Ending : Type 0 where
+  Refused : (number : ℕ) → Ending
+  Settled RanOut : (k : ℕ) (r : Float) → Ending
+  Ruined : (k : ℕ) → Ending
+
+-- what the code answers, in these words
+abbrev pub ending : Steady → Ending
+ending (Steady.Settled k r) = Settled k r
+ending (Steady.RanOut k r) = RanOut k r
+ending (Steady.Ruined k) = Ruined k
+
+abbrev pub ending_of : Result Steady Refusal → Ending
+ending_of (Ok a) = ending a
+ending_of (Err why) = Refused (number why)
+
+abbrev pub steady_number : Ending → ℕ
 steady_number (Refused number) = number
 steady_number (Settled k r) = 0
 steady_number (RanOut k r) = 0
@@ -27,7 +44,7 @@ pub record Values : Type 0 where
   pub steps : ℕ
   pub residual : Float
 
-abbrev pub steady_values : Steady → Values
+abbrev pub steady_values : Ending → Values
 steady_values (Refused number) = record { settled = false; steps = 0; residual = c0 }
 steady_values (Settled k r) = record { settled = true; steps = k; residual = r }
 steady_values (RanOut k r) = record { settled = false; steps = k; residual = r }
@@ -96,14 +113,14 @@ check_of s checks k r f u =
 
 -- an outcome: the answer with its number and values, and what the three buffers hold
 pub record SteadyRun : Type 0 where
-  pub answer : Steady
+  pub answer : Ending
   pub number : ℕ
   pub values : Values
   pub f : List ℕ
   pub post : List ℕ
   pub u : List ℕ
 
-abbrev pub ended : Steady → State → List ℕ → SteadyRun
+abbrev pub ended : Ending → State → List ℕ → SteadyRun
 ended a b u = record { answer = a; number = steady_number a; values = steady_values a; f = b.f; post = b.post; u = u }
 
 -- what a check after step k, in the state `now`, makes of the run

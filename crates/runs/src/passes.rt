@@ -1,168 +1,53 @@
-// Collision: one pass over the n cells. Kind and force are chosen once a pass, so each has a loop of its own. The four quick passes
-// read a buffer whose entries are all finite with no test for a NaN; the others test every entry, and ask for the force cell by cell.
-ghost use Rattle.std.specs.Prelude.{◌≡◌, true, false};
-ghost use Rattle.grid.specs.Finite.{AllFinite};
-ghost use Rattle.cell.specs.declared.Collision.TheVariants.{Bgk, Mrt, Trt};
-ghost use Rattle.cell.specs.Cell.{forced_by, bgk, trt, mrt};
+// Collision: one pass over the n cells. A buffer whose entries are all finite is read with no test for a NaN.
+ghost use Rattle.std.specs.Prelude.{◌≡◌, ◌*◌, ◌≤◌, ◌<◌};
+ghost use Rattle.grid.specs.Grid.{Holds, cell_of};
+ghost use Rattle.cell.specs.Cell.{forced_by};
 ghost use Rattle.runs.specs.Passes.{Paired, Ready, Vouched, passed};
 ghost use Rattle.runs.specs.Steps.{collided_buffer};
 
-use cell::{BgkRates, Collision, MrtRates, TrtRates};
+use cell::{BgkRates, Collide, Collision, Force, MrtRates, TrtRates};
 use settings::Settings;
 
-fn bgk_pass(n: usize, fx: f64, fy: f64, floor: f64, rates: BgkRates, f: &[u64], post: &mut [u64])
-    requires { Paired n f.now post.old × (forced_by fx fy ≡ false) × AllFinite f.now }
-    ensures { post.new ≡ passed (bgk rates) fx fy floor n f.now }
+fn gathered<const FINITE: bool>(f: &[u64], n: usize, c: usize) -> [f64; 9]
+    requires { Holds f.now n c × Vouched FINITE f.now }
+    ensures { result ≡ cell_of f.now n c }
 {
-    let mut c = 0;
-    while c < n {
-        let v = cell::bgk_cell(grid::gather_finite(f, n, c), fx, fy, floor, rates);
-        grid::put_back(post, n, c, v);
-        c += 1;
-    }
-}
-
-fn bgk_pass_forced(
-    n: usize,
-    fx: f64,
-    fy: f64,
-    floor: f64,
-    rates: BgkRates,
-    f: &[u64],
-    post: &mut [u64],
-)
-    requires { Paired n f.now post.old × (forced_by fx fy ≡ true) × AllFinite f.now }
-    ensures { post.new ≡ passed (bgk rates) fx fy floor n f.now }
-{
-    let mut c = 0;
-    while c < n {
-        let v = cell::bgk_cell_forced(grid::gather_finite(f, n, c), fx, fy, floor, rates);
-        grid::put_back(post, n, c, v);
-        c += 1;
-    }
-}
-
-fn trt_pass(n: usize, fx: f64, fy: f64, floor: f64, rates: TrtRates, f: &[u64], post: &mut [u64])
-    requires { Paired n f.now post.old × (forced_by fx fy ≡ false) × AllFinite f.now }
-    ensures { post.new ≡ passed (trt rates) fx fy floor n f.now }
-{
-    let mut c = 0;
-    while c < n {
-        let v = cell::trt_cell(grid::gather_finite(f, n, c), fx, fy, floor, rates);
-        grid::put_back(post, n, c, v);
-        c += 1;
-    }
-}
-
-fn trt_pass_forced(
-    n: usize,
-    fx: f64,
-    fy: f64,
-    floor: f64,
-    rates: TrtRates,
-    f: &[u64],
-    post: &mut [u64],
-)
-    requires { Paired n f.now post.old × (forced_by fx fy ≡ true) × AllFinite f.now }
-    ensures { post.new ≡ passed (trt rates) fx fy floor n f.now }
-{
-    let mut c = 0;
-    while c < n {
-        let v = cell::trt_cell_forced(grid::gather_finite(f, n, c), fx, fy, floor, rates);
-        grid::put_back(post, n, c, v);
-        c += 1;
-    }
-}
-
-fn bgk_pass_any(
-    n: usize,
-    fx: f64,
-    fy: f64,
-    floor: f64,
-    rates: BgkRates,
-    f: &[u64],
-    post: &mut [u64],
-)
-    requires { Paired n f.now post.old }
-    ensures { post.new ≡ passed (bgk rates) fx fy floor n f.now }
-{
-    let mut c = 0;
-    while c < n {
-        let v = cell::bgk_cell_any(grid::gather(f, n, c), fx, fy, floor, rates);
-        grid::put_back(post, n, c, v);
-        c += 1;
-    }
-}
-
-fn trt_pass_any(
-    n: usize,
-    fx: f64,
-    fy: f64,
-    floor: f64,
-    rates: TrtRates,
-    f: &[u64],
-    post: &mut [u64],
-)
-    requires { Paired n f.now post.old }
-    ensures { post.new ≡ passed (trt rates) fx fy floor n f.now }
-{
-    let mut c = 0;
-    while c < n {
-        let v = cell::trt_cell_any(grid::gather(f, n, c), fx, fy, floor, rates);
-        grid::put_back(post, n, c, v);
-        c += 1;
-    }
-}
-
-fn mrt_pass(n: usize, fx: f64, fy: f64, floor: f64, rates: MrtRates, f: &[u64], post: &mut [u64])
-    requires { Paired n f.now post.old }
-    ensures { post.new ≡ passed (mrt rates) fx fy floor n f.now }
-{
-    let mut c = 0;
-    while c < n {
-        let v = cell::mrt_cell(grid::gather(f, n, c), fx, fy, floor, rates);
-        grid::put_back(post, n, c, v);
-        c += 1;
-    }
-}
-
-fn collide_bgk(s: Settings, finite: bool, f: &[u64], post: &mut [u64])
-    requires { (s.collision ≡ Bgk) × Ready s f.now post.old × Vouched finite f.now }
-    ensures { post.new ≡ collided_buffer s f.now }
-{
-    let n = s.nx * s.ny;
-    let rates = cell::bgk_rates(settings::tau(s.nu));
-    if !finite {
-        bgk_pass_any(n, s.fx, s.fy, s.floor, rates, f, post);
-    } else if cell::forced(s.fx, s.fy) {
-        bgk_pass_forced(n, s.fx, s.fy, s.floor, rates, f, post);
+    if FINITE {
+        grid::gather_finite(f, n, c)
     } else {
-        bgk_pass(n, s.fx, s.fy, s.floor, rates, f, post);
+        grid::gather(f, n, c)
     }
 }
 
-fn collide_trt(s: Settings, rate: f64, finite: bool, f: &[u64], post: &mut [u64])
-    requires { (s.collision ≡ Trt rate) × Ready s f.now post.old × Vouched finite f.now }
-    ensures { post.new ≡ collided_buffer s f.now }
+fn pass<K: Collide, const FORCED: bool, const FINITE: bool>(
+    rates: K,
+    force: Force,
+    floor: f64,
+    n: usize,
+    f: &[u64],
+    post: &mut [u64],
+)
+    requires { Paired n f.now post.old × (forced_by force.x force.y ≡ FORCED) × Vouched FINITE f.now }
+    ensures { post.new ≡ passed (K.rule rates) force.x force.y floor n f.now }
 {
-    let n = s.nx * s.ny;
-    let rates = cell::trt_rates(settings::tau(s.nu), rate);
-    if !finite {
-        trt_pass_any(n, s.fx, s.fy, s.floor, rates, f, post);
-    } else if cell::forced(s.fx, s.fy) {
-        trt_pass_forced(n, s.fx, s.fy, s.floor, rates, f, post);
-    } else {
-        trt_pass(n, s.fx, s.fy, s.floor, rates, f, post);
+    for c in 0..n {
+        let v = cell::cell::<K, FORCED>(rates, gathered::<FINITE>(f, n, c), force, floor);
+        grid::put_back(post, n, c, v);
     }
 }
 
-fn collide_mrt(s: Settings, f: &[u64], post: &mut [u64])
-    requires { (s.collision ≡ Mrt) × Ready s f.now post.old }
-    ensures { post.new ≡ collided_buffer s f.now }
+fn collide_by<K: Collide>(rates: K, s: Settings, finite: bool, f: &[u64], post: &mut [u64])
+    requires { Ready s f.now post.old × Vouched finite f.now }
+    ensures { post.new ≡ passed (K.rule rates) s.fx s.fy s.floor (s.nx * s.ny) f.now }
 {
     let n = s.nx * s.ny;
-    let rates = cell::mrt_rates(settings::tau(s.nu));
-    mrt_pass(n, s.fx, s.fy, s.floor, rates, f, post);
+    let force = Force { x: s.fx, y: s.fy };
+    match (force.acts(), finite) {
+        (true, true) => pass::<K, true, true>(rates, force, s.floor, n, f, post),
+        (true, false) => pass::<K, true, false>(rates, force, s.floor, n, f, post),
+        (false, true) => pass::<K, false, true>(rates, force, s.floor, n, f, post),
+        (false, false) => pass::<K, false, false>(rates, force, s.floor, n, f, post),
+    }
 }
 
 // Collides every cell of f into post; `finite` where every entry of f is known to be finite.
@@ -170,10 +55,10 @@ pub fn collide(s: Settings, finite: bool, f: &[u64], post: &mut [u64])
     requires { Ready s f.now post.old × Vouched finite f.now }
     ensures { post.new ≡ collided_buffer s f.now }
 {
-    let k = s.collision;
-    match k {
-        Collision::Bgk => collide_bgk(s, finite, f, post),
-        Collision::Mrt => collide_mrt(s, f, post),
-        Collision::Trt(rate) => collide_trt(s, rate, finite, f, post),
+    let tau = s.tau();
+    match s.collision {
+        Collision::Bgk => collide_by(BgkRates::new(tau), s, finite, f, post),
+        Collision::Mrt => collide_by(MrtRates::new(tau), s, finite, f, post),
+        Collision::Trt(rate) => collide_by(TrtRates::new(tau, rate), s, finite, f, post),
     }
 }

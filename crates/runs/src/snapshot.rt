@@ -10,31 +10,30 @@ use cell::Moments;
 use settings::Settings;
 
 // The two maxima of a residual: of |Δu| and of |u|.
-#[derive(Clone, Copy)]
+#[derive(Clone, Copy, Debug, PartialEq)]
 struct Maxima {
     du: f64,
     umax: f64,
 }
 
 // What makes a cell's reading bad stands here alone.
+#[tactic(auto, unfolding(crate::specs::Steady::bad_cell))]
 fn bad_cell(s: Settings, f: &[u64], c: usize) -> bool
     requires { Holds f.now (s.nx * s.ny) c }
     ensures { result ≡ bad_cell s f.now c }
 {
-    let m = readings::read_velocity(f, s.nx * s.ny, c, s.fx, s.fy, s.floor);
+    let m = readings::read_velocity(s, f, c);
     number::not_finite(m.density) | number::not_finite(m.ux) | number::not_finite(m.uy)
 }
 
+#[tactic(auto, using(crate::proofs::Snapshots::judged_all))]
 pub fn bad_snapshot(s: Settings, f: &[u64]) -> bool
     requires { Grid s.nx s.ny × (length f.now ≡ 9 * (s.nx * s.ny)) }
     ensures { result ≡ bad_snapshot s f.now }
 {
-    let n = s.nx * s.ny;
     let mut bad = false;
-    let mut c = 0;
-    while c < n {
-        bad = bad | bad_cell(s, f, c);
-        c += 1;
+    for c in 0..s.nx * s.ny {
+        bad |= bad_cell(s, f, c);
     }
     bad
 }
@@ -77,13 +76,10 @@ pub fn take_snapshot(s: Settings, f: &[u64], u: &mut [u64]) -> f64
     ensures taken { u.new ≡ velocity_buffer s f.now }
     ensures residual { result ≡ residual_of s f.now u.old }
 {
-    let n = s.nx * s.ny;
     let mut max = Maxima { du: 0.0, umax: 0.0 };
-    let mut c = 0;
-    while c < n {
-        let m = readings::read_velocity(f, n, c, s.fx, s.fy, s.floor);
+    for c in 0..s.nx * s.ny {
+        let m = readings::read_velocity(s, f, c);
         max = take_cell(max, m, c, u);
-        c += 1;
     }
     ratio(max)
 }

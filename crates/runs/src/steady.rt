@@ -2,24 +2,23 @@
 ghost use Rattle.std.specs.Prelude.{◌≡◌};
 ghost use Rattle.runs.specs.Passes.{AllReady, Seen};
 ghost use Rattle.runs.specs.Steps.{state};
-ghost use Rattle.runs.specs.Steady.{checked, found, check_of, ended, started, settling, steady_of};
+ghost use Rattle.runs.specs.Steady.{checked, found, check_of, ending, ending_of, ended, started, settling, steady_of};
 
 use crate::snapshot::{bad_snapshot, take_snapshot};
 use crate::steps::advance;
-use settings::Settings;
+use settings::{Refusal, Settings};
 
-// What a steady run answers: settled or ran out, with the number of steps and the residual; ruined by a bad snapshot, with the
+// How a steady run ends: settled or ran out, with the number of steps and the residual; ruined by a bad snapshot, with the
 // number of steps.
-#[derive(Clone, Copy)]
+#[derive(Clone, Copy, Debug, PartialEq)]
 pub enum Steady {
-    Refused(u32),
     Settled(u64, f64),
     RanOut(u64, f64),
     Ruined(u64),
 }
 
 // What is asked of a steady run: the tolerance below which it is settled, the most steps, and how many of them to a check.
-#[derive(Clone, Copy)]
+#[derive(Clone, Copy, Debug, PartialEq)]
 struct Checks {
     tolerance: f64,
     max_steps: u64,
@@ -27,7 +26,7 @@ struct Checks {
 }
 
 // What a check finds: a bad snapshot, or the residual, below the tolerance or not.
-#[derive(Clone, Copy)]
+#[derive(Clone, Copy, Debug, PartialEq)]
 enum Check {
     Bad,
     Settles(f64),
@@ -42,6 +41,7 @@ fn is_checked(every: u64, k: u64) -> bool
 }
 
 // The check after step k, if there is one: the new snapshot is judged before any of it is written.
+#[tactic(auto, using(crate::proofs::Settling::not_due, crate::proofs::Settling::is_bad, crate::proofs::Settling::settles, crate::proofs::Settling::goes_on))]
 fn check_after(
     s: Settings,
     checks: Checks,
@@ -68,6 +68,7 @@ fn check_after(
 }
 
 // The run once its first snapshot stands in u.
+#[tactic(auto, using(crate::proofs::Settling::ran_out))]
 fn steady_steps(
     s: Settings,
     checks: Checks,
@@ -76,30 +77,29 @@ fn steady_steps(
     u: &mut [u64],
 ) -> Steady
     requires { AllReady s f.old post.old u.old }
-    ensures { ended result (state f.new post.new) u.new
+    ensures { ended (ending result) (state f.new post.new) u.new
         ≡ started s checks (state f.old post.old) u.old }
 {
     let most = checks.max_steps;
-    let mut residual = 1.0 / 0.0;
+    let mut residual = f64::INFINITY;
     let mut finite = number::clear(grid::joined(f));
-    let mut k = 0;
-    while k < most {
+    for taken in 0..most {
+        let k = taken + 1;
         finite = advance(s, finite, f, post);
-        k += 1;
-        let found = check_after(s, checks, k, residual, f, u);
-        match found {
+        match check_after(s, checks, k, residual, f, u) {
             Check::Bad => return Steady::Ruined(k),
             Check::Settles(r) => return Steady::Settled(k, r),
             Check::GoesOn(r) => residual = r,
         }
     }
-    Steady::RanOut(k, residual)
+    Steady::RanOut(most, residual)
 }
 
 // The run where nothing is refused. A bad first snapshot is not written.
+#[tactic(auto, using(crate::proofs::Settling::ruined_first, crate::proofs::Settling::ran_on))]
 fn settle(s: Settings, checks: Checks, f: &mut [u64], post: &mut [u64], u: &mut [u64]) -> Steady
     requires { AllReady s f.old post.old u.old }
-    ensures { ended result (state f.new post.new) u.new
+    ensures { ended (ending result) (state f.new post.new) u.new
         ≡ settling s checks (state f.old post.old) u.old }
 {
     if bad_snapshot(s, f) {
@@ -110,6 +110,7 @@ fn settle(s: Settings, checks: Checks, f: &mut [u64], post: &mut [u64], u: &mut 
 }
 
 // Steps until the velocity hardly changes, at most `max_steps` steps. u then holds the last good snapshot.
+#[tactic(auto, using(crate::proofs::Settling::settle_ready, crate::proofs::Settling::is_run))]
 pub fn run_to_steady_state(
     s: Settings,
     tolerance: f64,
@@ -118,25 +119,15 @@ pub fn run_to_steady_state(
     f: &mut [u64],
     post: &mut [u64],
     u: &mut [u64],
-) -> Steady
-    ensures { ended result (state f.new post.new) u.new
+) -> Result<Steady, Refusal>
+    ensures { ended (ending_of result) (state f.new post.new) u.new
         ≡ steady_of s tolerance max_steps check_every f.old post.old u.old }
 {
-    let number = settings::run_to_steady_state_refusal(
-        s,
-        tolerance,
-        max_steps,
-        f.len(),
-        post.len(),
-        u.len(),
-    );
-    if number != 0 {
-        return Steady::Refused(number);
-    }
+    settings::check_run_to_steady_state(s, tolerance, max_steps, f.len(), post.len(), u.len())?;
     let checks = Checks {
         tolerance,
         max_steps,
         check_every,
     };
-    settle(s, checks, f, post, u)
+    Ok(settle(s, checks, f, post, u))
 }

@@ -1,12 +1,13 @@
 -- What the tests tell where they do not hold, and so what is known of a call that is not refused.
-use mathlib.Core.Path.{◌≡◌, refl, sym}
-use mathlib.Core.Bool.{Bool, true, false, cond, ◌||◌}
+use mathlib.Core.Path.{ap, ◌≡◌, refl, sym}
+use mathlib.Core.Bool.{not, Bool, true, false, cond, ◌||◌}
 use mathlib.Core.List.{List, [], ◌∷◌}
-use Prim.Native.Nat.{ℕ, zero, suc, ◌+◌, ◌*◌, ◌≤◌, ◌<◌}
+use Prim.Native.Nat.{ℕ, zero, suc, ◌+◌, ◌-◌, ◌*◌, ◌≤◌, ◌<◌}
+use native.Mathlib.Nat.{mul-le-mul}
 use native.Mathlib.Omega.{arith}
-use lib.Dec.{T, leb, ltb}
+use lib.Dec.{eqb, T, leb, ltb}
 use lib.Ieee.{is_nan}
-use borrow.Author.Tests.{ltb-false, leb-false, eqb-true, not-false}
+use borrow.Author.Tests.{eq-eqb, ltb-false, leb-false, eqb-true, not-false}
 use Rattle.grid.specs.Grid.{Grid, most_side, most_cells}
 use Rattle.settings.specs.declared.Head.{Head}
 use Rattle.settings.specs.declared.Settings.{Settings}
@@ -67,9 +68,21 @@ sides_ok nx ny e =
       few = ltb-false most_cells (nx * ny) (or_right (side_bad nx || side_bad ny) (ltb most_cells (nx * ny)) e);
     }
 
+-- so their product is far from wrapping
+pub sides_fit : (nx ny : ℕ) → side_bad nx || side_bad ny ≡ false → nx * ny ≤ most_side * most_side
+sides_fit nx ny e =
+    mul-le-mul (side_most nx (or_left (side_bad nx) (side_bad ny) e)) (side_most ny (or_right (side_bad nx) (side_bad ny) e))
+
 pub length_ok : (nx ny per len : ℕ) → length_bad nx ny per len ≡ false → len ≡ per * (nx * ny)
 unfolding length_bad
 length_ok nx ny per len e = eqb-true len (per * (nx * ny)) (not-false _ e)
+
+-- what is left behind the head is of the cells' length exactly where the whole is
+pub behind : (head cells len : ℕ) → head ≤ len → not (eqb (len - head) cells) ≡ not (eqb len (head + cells))
+behind head cells len h =
+    same_test (not (eqb (len - head) cells)) (not (eqb len (head + cells)))
+    (λ e. let p = eqb-true (len - head) cells (not-false _ e) in ap not (eq-eqb len (head + cells) (omega arith)))
+    (λ e. let p = eqb-true len (head + cells) (not-false _ e) in ap not (eq-eqb (len - head) cells (omega arith)))
 
 pub bytes_ok : (nx ny head len : ℕ) → bytes_bad nx ny head len ≡ false → len ≡ head + 72 * (nx * ny)
 unfolding bytes_bad
@@ -170,7 +183,7 @@ none true zero later h e = absurd h
 none true (suc n) later h e = absurd (omega (arith, e))
 none false number later h e = (refl, e)
 
-positive : (t : Test) → T (ltb 0 (row t).number)
+pub positive : (t : Test) → T (ltb 0 (row t).number)
 positive (sides s) = tt
 positive (lengths s per len) = tt
 positive (rates s) = tt

@@ -2,3 +2,5 @@ pub mod Laws
 pub mod Order
 pub mod Outcome
 pub mod Magic
+pub mod Numbers
+pub mod Same

@@ -7,85 +7,48 @@ use std::io;
 // A NaN with a payload, so that a copy of it is told from any number.
 pub const CANARY: u64 = 0x7ff8_dead_beef_cafe;
 
+// Whether each of a is this one.
+pub fn full_of<T: PartialEq>(a: &[T], x: &T) -> bool {
+    a.iter().all(|y| y == x)
+}
+
 pub fn kept(a: &[u64]) -> bool {
-    let mut k = 0;
-    while k < a.len() {
-        if a[k] != CANARY {
-            return false;
-        }
-        k += 1;
-    }
-    true
+    full_of(a, &CANARY)
 }
 
-pub fn same(a: &[u64], b: &[u64]) -> bool {
-    if a.len() != b.len() {
-        return false;
-    }
-    let mut k = 0;
-    while k < a.len() {
-        if a[k] != b[k] {
-            return false;
-        }
-        k += 1;
-    }
-    true
+pub fn gives(rt: &impl Print, operation: &str, case: &str, number: u32) -> io::Result<()> {
+    print!(rt; "{operation}: {case} gives {number}")
 }
 
-pub fn zero(v: f64) -> bool {
-    number::pattern(v) == 0
-}
-
-pub fn gives(rt: &impl Print, operation: &[u8], case: &[u8], number: u32) -> io::Result<()> {
-    rt.write_all(operation)?;
-    rt.write_all(b": ")?;
-    rt.write_all(case)?;
-    print!(rt; " gives {number}")
-}
-
-pub fn value(rt: &impl Print, name: &[u8], v: u64) -> io::Result<()> {
-    rt.write_all(name)?;
-    print!(rt; "{v}")
+pub fn value(rt: &impl Print, name: &str, v: u64) -> io::Result<()> {
+    print!(rt; "{name}{v}")
 }
 
 pub fn newline(rt: &impl Print) -> io::Result<()> {
-    rt.write_all(b"\n")
+    println!(rt; "")
 }
 
 // The word stands for what must hold.
-pub fn holds(rt: &impl Print, it: bool, word: &[u8]) -> io::Result<()> {
-    if it {
-        rt.write_all(word)
-    } else {
-        rt.write_all(b", WRONG")
-    }
+pub fn holds(rt: &impl Print, it: bool, word: &str) -> io::Result<()> {
+    let said = if it { word } else { ", WRONG" };
+    print!(rt; "{said}")
 }
 
-pub fn number(rt: &impl Print, operation: &[u8], case: &[u8], number: u32) -> io::Result<()> {
+pub fn number(rt: &impl Print, operation: &str, case: &str, number: u32) -> io::Result<()> {
     gives(rt, operation, case, number)?;
     newline(rt)
 }
 
-pub fn left(
+// What must hold of a refused call, beside its number.
+pub fn refused(
     rt: &impl Print,
-    operation: &[u8],
-    case: &[u8],
+    operation: &str,
+    case: &str,
     number: u32,
-    all: bool,
+    it: bool,
+    word: &str,
 ) -> io::Result<()> {
     gives(rt, operation, case, number)?;
-    holds(rt, all, b", left")?;
-    newline(rt)
-}
-
-pub fn zeros(
-    rt: &impl Print,
-    operation: &[u8],
-    case: &[u8],
-    number: u32,
-    all: bool,
-) -> io::Result<()> {
-    gives(rt, operation, case, number)?;
-    holds(rt, all, b", zero")?;
+    holds(rt, it, word)?;
     newline(rt)
 }

@@ -11,18 +11,16 @@ use Rattle.grid.specs.Grid.{Field, field_of, buffer_of, Same}
 use Rattle.grid.specs.Finite.{joined_buffer}
 use Rattle.grid.proofs.Fields.{same_refl, same_trans, buffer_length, field_of_buffer, is_buffer}
 use Rattle.settings.specs.declared.Settings.{Settings}
+use Rattle.settings.proofs.Laws.{sides_ok, length_ok}
+use Rattle.settings.proofs.Numbers.{some_number}
 use Rattle.streaming.specs.Travel.{streamed}
-use Rattle.streaming.specs.Rows.{Lent, Became, Streamed}
+use Rattle.streaming.specs.Rows.{Became, Streamed}
 use Rattle.streaming.specs.Faces.{face}
 use Rattle.streaming.specs.Carried.{faces_join, streamed_buffer, carried_join}
 use Rattle.streaming.specs.Streaming.{bounded, next, next_buffer}
 use Rattle.streaming.specs.Turned.{facing, turned, seen, carried}
 use Rattle.streaming.proofs.Turned.{facing_small, facing_twice}
 use Rattle.streaming.proofs.Faces.{face_same}
-
--- a buffer that was written whole in place is lent on
-pub still_lent : {nx ny : ℕ} {src d e : List ℕ} → Lent nx ny src d → length e ≡ length d → Lent nx ny src e
-still_lent l size = record { grid = l.grid; read = l.read; written = size ∙ l.written }
 
 -- ---- the four faces
 
@@ -96,3 +94,9 @@ module _ (back : Bool) (s : Settings) (b : List ℕ) where
 pub carried_forward : (s : Settings) (post : List ℕ) → carried false s post ≡ next_buffer s post
 unfolding carried next_buffer
 carried_forward s post = refl
+
+-- what `carry` needs of its three calls
+pub ruleset carrying = (then_faces, is_carried, carried_joined)
+
+-- what the operation needs: of a refusal, of a call that is not refused, and of the carrying
+pub ruleset outcome = (some_number, sides_ok, length_ok, carried_forward)

@@ -1,7 +1,7 @@
 -- The directions of the four faces, by computed tables over axis and side: which come in, and that they are three different ones.
 use mathlib.Core.Path.{◌≡◌, refl, sym, ap, ◌∙◌, subst}
 use mathlib.Core.Bool.{Bool, true, false, ◌||◌, false≢true}
-use Prim.Native.Nat.{ℕ, zero, suc, ◌*◌, ◌<◌}
+use Prim.Native.Nat.{ℕ, zero, suc, ◌<◌}
 use lib.IntN.{ℤ, pos, negsuc, ◌+ℤ◌, ◌*ℤ◌}
 use native.Mathlib.Omega.{arith}
 use lib.Dec.{T, eqb}
@@ -15,16 +15,12 @@ use Rattle.lattice.specs.declared.Side.TheVariants.{Min, Max}
 use Rattle.lattice.specs.Lattice.{directions, E}
 use Rattle.lattice.specs.Lookup.{is_row, lookup}
 use Rattle.lattice.specs.Sides.{normal, above_zero, incoming}
-use Rattle.settings.specs.declared.Face.{Face}
-use Rattle.streaming.specs.declared.edge.Names.{Names}
-use Rattle.streaming.specs.declared.edge.Line.{Line}
-use Rattle.streaming.specs.declared.edge.Planes.{Planes}
-use Rattle.streaming.specs.declared.edge.Edge.{Edge}
+use Rattle.streaming.specs.declared.three.Three.{Three}
 use Rattle.streaming.specs.Turned.{facing}
-use Rattle.streaming.specs.Faces.{names}
-use Rattle.streaming.specs.Lines.{Inside, planes_of, Small, Apart, Sound, Other, line_of, each, edge_of, Built}
-use Rattle.streaming.specs.Source.{reflect}
-use Rattle.streaming.proofs.Turned.{facing_small, facing_twice}
+use Rattle.streaming.specs.Faces.{Names, names}
+use Rattle.streaming.specs.Three.{each, Apart}
+use Rattle.streaming.specs.Lines.{incoming_of, Other}
+use Rattle.streaming.proofs.Turned.{facing_twice}
 
 -- ---- the names of a face
 
@@ -57,19 +53,22 @@ pub comes_in_where : (a : Axis) (s : Side) (i : ℕ) → let en = E i X *ℤ nor
     (incoming a s i ≡ true → Above en) × (Above en → incoming a s i ≡ true)
 comes_in_where a s i = (above _, λ h. ap above_zero h.is)
 
-pub sound : (a : Axis) (s : Side) → Sound (names a s)
+-- three directions, and three different ones
+pub record Small (p : Three ℕ) : Type 0 where
+  pub n : p.n < 9
+  pub np : p.np < 9
+  pub nm : p.nm < 9
+
+pub record Sound (p : Three ℕ) : Type 0 where
+  pub small : Small p
+  pub apart : Apart p
+
+pub sound : (a : Axis) (s : Side) → Sound (incoming_of (names a s))
 unfolding directions names lookup is_row
 sound X Min = search arith
 sound X Max = search arith
 sound Y Min = search arith
 sound Y Max = search arith
-
--- ---- three planes
-
--- each is what it is to be, and a plane
-pub three_planes : {a b c a' b' c' : ℕ} → (a ≡ a') × (a < 9) → (b ≡ b') × (b < 9) → (c ≡ c') × (c < 9)
-    → let p : Planes = record { n = a; np = b; nm = c } in (◌≡◌ {A = Planes} p (record { n = a'; np = b'; nm = c' })) × Small p
-three_planes (p, hp) (q, hq) (r, hr) = (λ x. record { n = p x; np = q x; nm = r x }, record { n = hp; np = hq; nm = hr })
 
 -- ---- one of three directions, or none
 
@@ -87,10 +86,10 @@ one_of i d e = by_tests (eqb i d.n) (eqb i d.np) (eqb i d.nm) refl refl refl e
     by_tests false false true ep eq er e = is-nm (eqb-true i d.nm er)
     by_tests false false false ep eq er e = absurd (subst T (sym e) tt)
 
-pub none_of : (i : ℕ) (d : Names) → named d i ≡ false → Other i (planes_of (λ j. j) d)
+pub none_of : (i : ℕ) (d : Names) → named d i ≡ false → Other i (incoming_of d)
 none_of i d e = by_tests (eqb i d.n) (eqb i d.np) (eqb i d.nm) refl refl refl e
   where
-    by_tests : (p q r : Bool) → eqb i d.n ≡ p → eqb i d.np ≡ q → eqb i d.nm ≡ r → p || q || r ≡ false → Other i (planes_of (λ j. j) d)
+    by_tests : (p q r : Bool) → eqb i d.n ≡ p → eqb i d.np ≡ q → eqb i d.nm ≡ r → p || q || r ≡ false → Other i (incoming_of d)
     by_tests true q r ep eq er e = absurd (subst T e tt)
     by_tests false true r ep eq er e = absurd (subst T e tt)
     by_tests false false true ep eq er e = absurd (subst T e tt)
@@ -102,42 +101,20 @@ module _ (back : Bool) where
   facing_inj : (i j : ℕ) → i < 9 → j < 9 → facing back i ≡ facing back j → i ≡ j
   facing_inj i j hi hj e = sym (facing_twice back i hi) ∙ ap (facing back) e ∙ facing_twice back j hj
 
-  pub three_facing : (d : Names) → Apart (planes_of (λ j. j) d) → Apart (planes_of (facing back) d)
-  three_facing d h =
+  pub apart_facing : (p : Three ℕ) → Sound p → Apart (each (facing back) p)
+  apart_facing p h =
       let s = h.small in
+      let a = h.apart in
       record {
-        small = record { n = facing_small back d.n s.n; np = facing_small back d.np s.np; nm = facing_small back d.nm s.nm };
-        n_np = λ e. h.n_np (facing_inj d.n d.np s.n s.np e);
-        n_nm = λ e. h.n_nm (facing_inj d.n d.nm s.n s.nm e);
-        np_nm = λ e. h.np_nm (facing_inj d.np d.nm s.np s.nm e);
+        n_np = λ e. a.n_np (facing_inj p.n p.np s.n s.np e);
+        n_nm = λ e. a.n_nm (facing_inj p.n p.nm s.n s.nm e);
+        np_nm = λ e. a.np_nm (facing_inj p.np p.nm s.np s.nm e);
       }
 
-  pub other_facing : (i : ℕ) (d : Names) → i < 9 → Small (planes_of (λ j. j) d) → Other i (planes_of (λ j. j) d) → Other (facing back i) (planes_of (facing back) d)
-  other_facing i d hi s o =
+  pub other_facing : (i : ℕ) (p : Three ℕ) → i < 9 → Small p → Other i p → Other (facing back i) (each (facing back) p)
+  other_facing i p hi s o =
       record {
-        n = λ e. o.n (facing_inj i d.n hi s.n e);
-        np = λ e. o.np (facing_inj i d.np hi s.np e);
-        nm = λ e. o.nm (facing_inj i d.nm hi s.nm e);
+        n = λ e. o.n (facing_inj i p.n hi s.n e);
+        np = λ e. o.np (facing_inj i p.np hi s.np e);
+        nm = λ e. o.nm (facing_inj i p.nm hi s.nm e);
       }
-
--- ---- a face as its cells need it, from its parts as the code makes them
-
-pub edge_is : (a : Axis) (s : Side) (kind : Face) (back : Bool) (nx ny : ℕ) {d : Names} {l : Line} {p q r : Planes} → d ≡ names a s
-    → (l ≡ line_of a s nx ny) × Inside l (nx * ny)
-    → (p ≡ planes_of (facing back) (names a s)) × Apart p
-    → q ≡ planes_of (reflect a kind) d
-    → (r ≡ each (facing back) q) × Small r
-    → let e : Edge = record { axis = a; side = s; kind = kind; back = back; cells = nx * ny; line = l; names = d; into = p; from = r } in (e ≡ edge_of a s kind back nx ny) × Built e
-edge_is a s kind back nx ny ed (el, inside) (ep, apart) eq (er, small) =
-    let from = er ∙ ap (each (facing back)) eq ∙ ap (λ (d : Names). planes_of (λ i. facing back (reflect a kind i)) d) ed in (
-      rw (ed, el, ep, from),
-      record {
-        inside = inside;
-        sound = rw ed (sound a s);
-        names_of = ed;
-        into_of = rw ed ep;
-        into_apart = apart;
-        from_of = rw ed from;
-        from_small = small;
-      },
-    )

@@ -4,7 +4,6 @@ use mathlib.Core.Bool.{Bool, true, false, cond, ◌&&◌, false≢true}
 use mathlib.Core.List.{List}
 use Prim.Native.Nat.{ℕ, ◌+◌, ◌-◌, ◌*◌, ◌<◌}
 use native.Mathlib.Omega.{arith}
-use lib.ListN.{get_or}
 use borrow.Author.Tests.{eqb-true, eqb-false}
 use Rattle.number.specs.Number.{value_of}
 use Rattle.number.proofs.Nine.{nine_of}
@@ -20,15 +19,19 @@ use Rattle.grid.specs.Grid.{Field, field_of, Same}
 use Rattle.grid.proofs.Radix.{within, low_inj, high_inj}
 use Rattle.settings.specs.declared.Face.{Face}
 use Rattle.settings.specs.declared.Face.TheVariants.{Periodic, NoSlip, MovingWall, Symmetry, Velocity, Pressure}
+use Rattle.settings.specs.declared.Settings.{Settings}
 use Rattle.settings.specs.Tests.{is_periodic}
-use Rattle.streaming.specs.declared.edge.Names.{Names}
 use Rattle.streaming.specs.declared.edge.Edge.{Edge}
-use Rattle.streaming.specs.declared.entries.Entries.{Entries}
+use Rattle.streaming.specs.declared.line.Line.{Line}
+use Rattle.streaming.specs.declared.three.Three.{Three}
 use Rattle.streaming.specs.Turned.{facing, seen}
 use Rattle.streaming.specs.Rows.{Became}
-use Rattle.streaming.specs.Faces.{size_of, coord_of, on_face, fed, cell_at, pushed, walled, names, zou_he_at, takes, face}
-use Rattle.streaming.specs.Lines.{line_of, spot, planes_of, entries_of, alone, Sound, Built, taken_at, Along}
-use Rattle.streaming.proofs.Lines.{spots_differ}
+use Rattle.streaming.specs.Faces.{Names, size_of, coord_of, on_face, fed, cell_at, pushed, walled, names, zou_he_at, takes, face}
+use Rattle.streaming.specs.Three.{each, indices}
+use Rattle.streaming.specs.Lines.{Stretch, line_of, spot, incoming_of, entry_at, alone, taken_at, Along, Faced}
+use Rattle.streaming.specs.Read.{stretch}
+use Rattle.streaming.specs.Edges.{IsFace}
+use Rattle.streaming.proofs.Lines.{spots_differ, WrittenTo}
 use Rattle.streaming.proofs.Directions.{comes_in, sound, One, is-n, is-np, is-nm, one_of, none_of, other_facing}
 
 -- ---- which cells a face has
@@ -122,48 +125,43 @@ still back a s k nx ny p f h =
 
 -- ---- a cell that the line has not come to
 
-entries_same : (g h : ℕ → ℕ) (d : Names) → Sound d → ((i : ℕ) → i < 9 → g i ≡ h i) → entries_of g d ≡ entries_of h d
-entries_same g h d s e =
-    let l = s.three.small in
-    λ x. record { n = e d.n l.n x; np = e d.np l.np x; nm = e d.nm l.nm x }
-
 -- it takes what it would have taken before
-pub not_yet : {d g : List ℕ} {v : ℕ → Entries} (e : Edge) (post : List ℕ) (k : ℕ) → Built e → k < e.line.count → Along d g e.cells e.line e.into k v
-    → taken_at e post g (spot e.line k) ≡ taken_at e post d (spot e.line k)
-not_yet {d} {g} e post k b h w =
-    let n = e.cells in
-    let c = spot e.line k in
-    let p = alone e.back post n c in
-    entries_same _ _ e.names b.sound
-    (λ i l.
-    takes_local e.axis e.side e.kind p (alone e.back g n c) p (alone e.back d n c) 0 0 0 0 i l (λ j _. refl)
-    (λ j _. w.cells c (facing e.back j) (b.inside.cell k h) (λ m l q. spots_differ b.inside m k l (sym q))))
+pub not_yet : (a : Axis) (s : Side) (kind : Face) (back : Bool) (l : Line) (post : List ℕ) {d g : List ℕ} {p : Three ℕ} {v : ℕ → Three ℕ} (k : ℕ)
+    → k < l.count → Along d g l.cells (stretch l) p k v
+    → taken_at a s kind back l.cells post g (spot (stretch l) k) ≡ taken_at a s kind back l.cells post d (spot (stretch l) k)
+not_yet a s kind back l post {d} {g} k h w =
+    let n = l.cells in
+    let c = spot (stretch l) k in
+    let collided = alone back post n c in
+    let same : (i : ℕ) → i < 9 → takes a s kind collided (alone back g n c) 0 0 i ≡ takes a s kind collided (alone back d n c) 0 0 i =
+    λ i hi.
+    takes_local a s kind collided (alone back g n c) collided (alone back d n c) 0 0 0 0 i hi (λ j _. refl)
+    (λ j _. w.cells c (facing back j) (l.inside k h) (λ m less q. spots_differ l m k less (sym q))) in
+    let small = (sound a s).small in
+    let d = names a s in
+    λ x. record { n = same d.n small.n x; np = same d.np small.np x; nm = same d.nm small.nm x }
 
 -- ---- what was written along the line
 
 -- the entry of one of the three directions
-entry_of : (g h : ℕ → ℕ) {d : Names} {i : ℕ} → One i d → entries_of g d ≡ entries_of h d → g i ≡ h i
-entry_of g h (is-n e) q = ap g e ∙ ap (λ (r : Entries). r.n) q ∙ ap h (sym e)
-entry_of g h (is-np e) q = ap g e ∙ ap (λ (r : Entries). r.np) q ∙ ap h (sym e)
-entry_of g h (is-nm e) q = ap g e ∙ ap (λ (r : Entries). r.nm) q ∙ ap h (sym e)
+entry_of : (g h : ℕ → ℕ) {d : Names} {i : ℕ} → One i d → each g (incoming_of d) ≡ each h (incoming_of d) → g i ≡ h i
+entry_of g h (is-n e) q = ap g e ∙ ap (λ (r : Three ℕ). r.n) q ∙ ap h (sym e)
+entry_of g h (is-np e) q = ap g e ∙ ap (λ (r : Three ℕ). r.np) q ∙ ap h (sym e)
+entry_of g h (is-nm e) q = ap g e ∙ ap (λ (r : Three ℕ). r.nm) q ∙ ap h (sym e)
 
 module _ (back : Bool) (a : Axis) (s : Side) (k : Face) (nx ny : ℕ) (post f e : List ℕ) where
-  -- what the three directions take at cell c, from the two buffers
-  abbrev pub taken : ℕ → Entries
-  taken c = entries_of (takes a s k (alone back post (nx * ny) c) (alone back f (nx * ny) c) 0 0) (names a s)
-
-  -- the line of the face's cells, written with that
+  -- the line of the face's cells, written with what its directions take
   abbrev pub Settled : Type 0
   Settled =
       let l = line_of a s nx ny in
-      Along f e (nx * ny) l (planes_of (facing back) (names a s)) l.count (λ j. taken (spot l j))
+      Along f e (nx * ny) l (each (facing back) (incoming_of (names a s))) l.count (λ j. taken_at a s k back (nx * ny) post f (spot l j))
 
   at_cell : Settled → (x y i : ℕ) → x < nx → y < ny → i < 9 → (p q : Bool) → incoming a s i ≡ p → on_face s (size_of a nx ny) (coord_of a x y) ≡ q
       → seen back nx ny e x y i ≡ cond (p && q) (takes a s k (seen back nx ny post) (seen back nx ny f) x y i) (seen back nx ny f x y i)
   unfolding field_of
   at_cell w x y i hx hy hi false q ep eq =
       w.planes (x + y * nx) (facing back i) (within x y nx ny hx hy)
-      (other_facing back i (names a s) hi (sound a s).three.small (none_of i (names a s) (comes_in a s i hi ∙ ep)))
+      (other_facing back i (incoming_of (names a s)) hi (sound a s).small (none_of i (names a s) (comes_in a s i hi ∙ ep)))
   at_cell w x y i hx hy hi true false ep eq =
       w.cells (x + y * nx) (facing back i) (within x y nx ny hx hy)
       (λ j h c. off_line a s nx ny x y hx hy eq j (record { below = h; cell = c }))
@@ -171,16 +169,26 @@ module _ (back : Bool) (a : Axis) (s : Side) (k : Face) (nx ny : ℕ) (post f e 
       let on = on_line a s nx ny x y hx hy eq in
       let n = nx * ny in
       let c = x + y * nx in
-      entry_of (λ j. get_or e (c + facing back j * n) 0) (takes a s k (alone back post n c) (alone back f n c) 0 0) (one_of i (names a s) (comes_in a s i hi ∙ ep))
+      entry_of (λ j. entry_at e n c (facing back j)) (takes a s k (alone back post n c) (alone back f n c) 0 0) (one_of i (names a s) (comes_in a s i hi ∙ ep))
       (rw (← on.cell) at (w.written (across a x y) on.below))
       ∙ takes_local a s k (alone back post n c) (alone back f n c) (seen back nx ny post) (seen back nx ny f) 0 0 x y i hi (λ j h. refl) (λ j h. refl)
 
   -- the buffer holds the face's field
-  pub settled : {kind : Face} → kind ≡ k → Settled → Became back nx ny f e (face a s kind nx ny (seen back nx ny post) (seen back nx ny f))
+  pub settled : {n : ℕ} {l : Stretch} {p : Three ℕ} → n ≡ nx * ny → l ≡ line_of a s nx ny → p ≡ each (facing back) (incoming_of (names a s))
+      → Along f e n l p l.count (λ j. taken_at a s k back n post f (spot l j))
+      → Became back nx ny f e (face a s k nx ny (seen back nx ny post) (seen back nx ny f))
   unfolding face
-  settled is w =
-      rw is
-      (record {
+  settled cells line planes written =
+      let w : Settled = rw (cells, line, planes) at written in
+      record {
         size = w.size;
         field = record { here = λ x y i hx hy hi. at_cell w x y i hx hy hi (incoming a s i) (on_face s (size_of a nx ny) (coord_of a x y)) refl refl };
-      })
+      }
+
+-- an edge whose line is written whole
+pub written_whole : (s : Settings) (a : Axis) (d : Side) (back : Bool) (edge : Edge) (post f e : List ℕ) {k : ℕ} → IsFace s a d back edge → k ≡ edge.line.count
+    → WrittenTo edge.line f (indices edge.into) (λ j. taken_at edge.axis edge.side edge.kind edge.back edge.line.cells post f (spot (stretch edge.line) j)) e k
+    → Faced s a d back post f e
+written_whole s a d back edge post f e is whole w =
+    rw (← is.kind, ← is.way, ← is.axis, ← is.side)
+    (settled edge.back edge.axis edge.side edge.kind s.nx s.ny post f e is.cells (rw (← is.axis, ← is.side) at is.line) edge.into_is (rw whole at w))

@@ -4,7 +4,6 @@ use mathlib.Core.Path.{◌≡◌, refl, sym, ap, ◌∙◌}
 use mathlib.Core.Bool.{Bool, true, false, ◌&&◌, false≢true}
 use mathlib.Core.List.{List}
 use mathlib.Core.Logic.{◌⊎◌, inl, inr, ⊎_elim}
-use Rattle.streaming.specs.declared.edge.Names.{Names}
 use Prim.Native.Nat.{ℕ, ◌+◌, ◌*◌, ◌/◌, ◌%◌, ◌<◌}
 use native.Mathlib.Omega.{arith}
 use lib.Bits.{bit_or}
@@ -25,7 +24,7 @@ use Rattle.settings.specs.declared.Settings.{Settings}
 use Rattle.settings.specs.Tests.{face_of, is_periodic}
 use Rattle.streaming.specs.Travel.{streamed}
 use Rattle.streaming.specs.Turned.{facing, turned, seen, carried}
-use Rattle.streaming.specs.Faces.{size_of, coord_of, on_face, names, face}
+use Rattle.streaming.specs.Faces.{Names, size_of, coord_of, on_face, names, face}
 use Rattle.streaming.specs.Streaming.{next}
 use Rattle.streaming.specs.Lines.{line_of}
 use Rattle.streaming.specs.Carried.{line_join, plane_along, face_join, faces_join, streamed_buffer, carried_join}

@@ -2,6 +2,7 @@ pub mod Ring
 pub mod Wrapped
 pub mod Turned
 pub mod Rows
+pub mod Mapped
 pub mod Directions
 pub mod Lines
 pub mod Faces

@@ -1,8 +1,7 @@
 -- The travel turned round twice is as it was, and facing directions are directions.
-use mathlib.Core.Path.{◌≡◌, refl, sym, ◌∙◌, subst}
+use mathlib.Core.Path.{◌≡◌, refl, sym, ◌∙◌}
 use mathlib.Core.Bool.{Bool, true, false}
 use Prim.Native.Nat.{ℕ, ◌<◌}
-use lib.Dec.{T}
 use Rattle.lattice.proofs.Tables.{opposite_twice, opposite_small}
 use Rattle.streaming.specs.Turned.{facing}
 
@@ -13,9 +12,6 @@ facing_small false i h = h
 pub facing_twice : (back : Bool) (i : ℕ) → i < 9 → facing back (facing back i) ≡ i
 facing_twice true i h = opposite_twice i h
 facing_twice false i h = refl
-
-pub contradiction : {A : Type 0} {test : Bool} → test ≡ true → test ≡ false → A
-contradiction p q = absurd (subst T (sym p ∙ q) tt)
 
 -- where a test holds that fails with the travel turned round, it is not turned round
 pub not_back : (back test : Bool) → (back ≡ true → test ≡ false) → test ≡ true → back ≡ false

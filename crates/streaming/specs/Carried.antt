@@ -1,5 +1,5 @@
 -- What `carry` answers, as a number: all that was streamed and all that came in through the faces, raised and joined.
-use Rattle.std.specs.Prelude.{Bool, cond, List, ℕ, ◌+◌, ◌*◌, get_or}
+use Rattle.std.specs.Prelude.{Bool, cond, List, ℕ, ◌*◌}
 use Rattle.std.specs.Int.Bits.{bit_or}
 use Rattle.number.specs.Joined.{joined_to}
 use Rattle.lattice.specs.declared.Axis.{Axis}
@@ -13,21 +13,21 @@ use Rattle.settings.specs.Tests.{face_of, is_periodic}
 use Rattle.streaming.specs.Travel.{streamed}
 use Rattle.streaming.specs.Faces.{names}
 use Rattle.streaming.specs.Turned.{facing, turned, seen, carried}
-use Rattle.streaming.specs.Lines.{line_of, spot, planes_of}
-use Rattle.streaming.specs.declared.edge.Line.{Line}
+use Rattle.streaming.specs.Three.{each}
+use Rattle.streaming.specs.Lines.{Stretch, line_of, spot, incoming_of, entry_at}
 
 -- plane i along a line
-abbrev pub plane_along : List ℕ → ℕ → Line → ℕ → ℕ → ℕ
-plane_along b n l i k = get_or b (spot l k + i * n) 0
+abbrev pub plane_along : List ℕ → ℕ → Stretch → ℕ → ℕ → ℕ
+plane_along b n l i k = entry_at b n (spot l k) i
 
-abbrev pub line_join : List ℕ → ℕ → Line → ℕ → ℕ
+abbrev pub line_join : List ℕ → ℕ → Stretch → ℕ → ℕ
 line_join b n l i = joined_to (plane_along b n l i) l.count
 
 -- the three planes that come in through a face, along its cells; a periodic face lets nothing in that streaming had not
 -- copied
 unfoldable pub face_join : Bool → Settings → Axis → Side → List ℕ → ℕ
 face_join back s a d b =
-    let into = planes_of (facing back) (names a d) in
+    let into = each (facing back) (incoming_of (names a d)) in
     let along = line_join b (s.nx * s.ny) (line_of a d s.nx s.ny) in
     cond (is_periodic (face_of s a d)) 0 (bit_or (bit_or (along into.n) (along into.np)) (along into.nm))
 

@@ -13,7 +13,6 @@ use Rattle.grid.specs.Grid.{Field}
 use Rattle.cell.specs.Cell.{along_at, density_of}
 use Rattle.settings.specs.declared.Face.{Face}
 use Rattle.settings.specs.declared.Face.TheVariants.{Periodic, NoSlip, MovingWall, Symmetry, Velocity, Pressure}
-use Rattle.streaming.specs.declared.edge.Names.{Names}
 use Rattle.streaming.specs.declared.zou_he.Prescribed.{Prescribed}
 
 -- ---- where a face is, and which directions come in through it
@@ -62,6 +61,13 @@ abbrev pub dir : (Axis → ℤ) → ℕ
 dir g = dir_index_of (g X) (g Y)
 
 -- the directions n, t, -t, n + t and n - t, with n the inward normal and t the tangent
+pub record Names : Type 0 where
+  pub n : ℕ
+  pub t : ℕ
+  pub tm : ℕ
+  pub np : ℕ
+  pub nm : ℕ
+
 unfoldable pub names : Axis → Side → Names
 names a s = record {
   n = dir (normal a s);

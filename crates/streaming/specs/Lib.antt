@@ -4,5 +4,8 @@ pub mod Streaming
 pub mod Turned
 pub mod Source
 pub mod Rows
+pub mod Three
 pub mod Lines
+pub mod Read
+pub mod Edges
 pub mod Carried

@@ -1,23 +1,13 @@
 // Streaming: every plane goes on by one step of its direction. A copy copies patterns, so it keeps every bit.
-// `back` turns the travel round: opposite directions change places, in what is read and in what is written. Where the
-// faces lose nothing, that is the way back.
 ghost use Rattle.std.specs.Prelude.{◌≡◌, ◌+◌, ◌*◌, ◌%◌, ◌≤◌, ◌<◌, length};
 ghost use Rattle.number.specs.Joined.{joined_to};
 ghost use Rattle.grid.specs.Writes.{Wrote};
 ghost use Rattle.grid.specs.Finite.{joined_buffer};
-ghost use Rattle.streaming.specs.Turned as Turned;
 ghost use Rattle.streaming.specs.Travel.{part, against, far};
 ghost use Rattle.streaming.specs.Rows.{Lent, Streamed, Reaches, turned_row, turned_plane, PlaneCopied};
 
-use lattice::Axis;
-
-// The direction that stands in i's place: i itself, or where the travel is turned round, its opposite.
-pub fn facing(back: bool, i: usize) -> usize
-    requires { i < 9 }
-    ensures { (result ≡ Turned.facing back i) × (result < 9) }
-{
-    if back { lattice::opposite(i) } else { i }
-}
+use crate::way::facing;
+use lattice::{Axis, Direction};
 
 // Copies a row of n entries, turned by s: entry k is the source's entry (k + s) mod n, so that the row is two straight
 // copies. Answers their raised patterns joined, as all that copies here does.
@@ -55,26 +45,23 @@ fn plane(t: Shift, base: usize, src: &[u64], dst: &mut [u64]) -> u64
     ensures wrote { PlaneCopied t base src.now dst.old dst.new }
     ensures joined { result ≡ joined_to (turned_plane t base src.now) (t.nx * t.ny) }
 {
-    let mut joined = 0;
-    let mut y = 0;
-    while y < t.ny {
+    let mut bits = 0;
+    for y in 0..t.ny {
         let from = wrap(t.ny, y + t.sy);
-        let bits = row(src, base + from * t.nx, dst, base + y * t.nx, t.nx, t.sx);
-        joined = joined | bits;
-        y += 1;
+        bits |= row(src, base + from * t.nx, dst, base + y * t.nx, t.nx, t.sx);
     }
-    joined
+    bits
 }
 
 // One step of direction i back along an axis, as places on around the side of n.
-fn step_back(i: usize, axis: Axis, n: usize) -> usize
-    requires { (i < 9) × (1 ≤ n) }
-    ensures { (result ≡ far (against (part axis i)) n) × (result ≤ n) }
+fn step_back(i: Direction, axis: Axis, n: usize) -> usize
+    requires { 1 ≤ n }
+    ensures { (result ≡ far (against (part axis i.index)) n) × (result ≤ n) }
 {
-    let e = lattice::component(i, axis);
+    let e = i.component(axis);
     if e == 0 {
         0
-    } else if e == 1 {
+    } else if e > 0 {
         n - 1
     } else {
         1
@@ -89,15 +76,12 @@ pub fn stream(back: bool, nx: usize, ny: usize, src: &[u64], dst: &mut [u64]) ->
     ensures joined { result ≡ joined_buffer dst.new }
 {
     let n = nx * ny;
-    let mut all = 0;
-    let mut j = 0;
-    while j < 9 {
-        let i = facing(back, j);
+    let mut bits = 0;
+    for j in 0..9 {
+        let i = facing(back, Direction { index: j });
         let sx = step_back(i, Axis::X, nx);
         let sy = step_back(i, Axis::Y, ny);
-        let bits = plane(Shift { nx, ny, sx, sy }, j * n, src, dst);
-        all = all | bits;
-        j += 1;
+        bits |= plane(Shift { nx, ny, sx, sy }, j * n, src, dst);
     }
-    all
+    bits
 }

@@ -1,7 +1,9 @@
 -- Sums of finitely many numbers, once: by parts, term by term, in another order, and with one term changed.
-use Rattle.std.proofs.Common.{◌≡◌, ℕ, zero, suc, ◌+◌, ◌-◌, ◌*◌, ◌/◌, ◌%◌, ◌^◌, ◌<◌, cond, eqb, sym, refl, ap, ◌∙◌, ap₂, add-zero, add-suc, add_comm, zero-add, zero-mul, add-one, arith, eq-eqb, ne_eqb}
+use Rattle.std.proofs.Common.{◌≡◌, ◌≤◌, get_or-drop, List, length, get_or, take, drop, length-drop, ℕ, zero, suc, ◌+◌, ◌-◌, ◌*◌, ◌/◌, ◌^◌, ◌<◌, cond, eqb, sym, refl, ap, ◌∙◌, ap₂, add-zero, add-suc, add_comm, zero-add, zero-mul, add-one, arith, eq-eqb, ne_eqb}
 use native.Mathlib.Nat.{mod-add-mod, add-mod-mod, add-mod_right, mod-add-div', add-mul-mod_self_right}
 use native.Mathlib.Decide.{ℕ_discrete}
+use Rattle.std.specs.List.{fold, slice_range}
+use Rattle.std.proofs.lemmas.List.Sums.{fold_more}
 use Rattle.sums.specs.Sums.{sum, wrapped, less, moved_by}
 
 -- ---- term by term
@@ -141,7 +143,23 @@ same_wrapped b c a d e =
     let p : b + q * 2 ^ 64 ≡ c + d = omega (arith, e, mod-add-div' (a + d) (2 ^ 64)) in
     sym (add-mul-mod_self_right b q (2 ^ 64)) ∙ ap wrapped p
 
--- one term more, by the code `s = wrapping_add(s, v)`
-pub wrap_more : (g : ℕ → ℕ) (k s r : ℕ) → s ≡ wrapped (sum k g) → r ≡ (s + g k) % 2 ^ 64 → r ≡ wrapped (sum (k + 1) g)
+-- ---- a stretch of a list, folded from the left
+
+-- wrapping each sum on the way changes no wrapped sum
+folded : (l : List ℕ) (n : ℕ) → n ≤ length l → fold (λ s x. wrapped (s + x)) 0 (take n l) ≡ wrapped (sum n (λ k. get_or l k 0))
 unfolding sum
-wrap_more g k s r e q = q ∙ ap (λ (a : ℕ). wrapped (a + g k)) e ∙ mod-add-mod (sum k g) (2 ^ 64) (g k) ∙ ap (λ (j : ℕ). wrapped (sum j g)) (sym (add-one k))
+folded l zero h = refl
+folded l (suc n) h =
+    rw (
+      ← add-one n,
+      fold_more (λ s x. wrapped (s + x)) 0 l n 0 (omega arith),
+      folded l n (omega arith),
+    )
+    (mod-add-mod (sum n (λ k. get_or l k 0)) (2 ^ 64) (get_or l n 0))
+
+pub stretch_folded : (f : List ℕ) (from n : ℕ) → from + n ≤ length f → fold (λ s x. wrapped (s + x)) 0 (slice_range f from (from + n)) ≡ wrapped (sum n (λ k. get_or f (k + from) 0))
+stretch_folded f from n h =
+    let p : from + n - from ≡ n = omega arith in
+    ap (λ (k : ℕ). fold (λ s x. wrapped (s + x)) 0 (take k (drop from f))) p
+    ∙ folded (drop from f) n (omega (arith, length-drop from f))
+    ∙ ap wrapped (sum_cong n _ _ (λ k l. get_or-drop from f k 0 ∙ ap (λ (j : ℕ). get_or f j 0) (add_comm from k)))

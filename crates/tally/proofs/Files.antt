@@ -1,16 +1,20 @@
 -- The bytes of a tally's file, part by part; and what is read of it.
 use mathlib.Core.Path.{◌≡◌, refl, sym, ap, ◌∙◌}
-use mathlib.Core.Bool.{false}
+use mathlib.Core.Bool.{Bool, true, false, cond}
 use mathlib.Core.List.{List, ◌++◌}
-use Prim.Native.Nat.{ℕ, ◌^◌, ◌<◌}
+use Prim.Native.Nat.{ℕ, ◌-◌, ◌^◌, ◌<◌}
 use native.Mathlib.Omega.{arith}
 use borrow.Author.Tests.{eq-eqb, ne_eqb}
+use lib.Dec.{eqb}
 use lib.ListN.{length, get_or, length-append, replicate}
+use borrow.Rule.Slice.PartMut.{put_mid}
+use Rattle.std.specs.List.{slice_range}
 use Rattle.words.specs.Words.{big, bigs, number_at, part_at, numbers_at, Laid}
-use Rattle.words.proofs.Words.{bigs_length, part_of, numbers_of}
-use Rattle.words.proofs.Laid.{laid_append, laid_all}
+use Rattle.words.proofs.Words.{bigs_length, numbers_length, part_of, numbers_of}
+use Rattle.words.proofs.Laid.{laid_append, laid_all, laid_part, laid_put}
 use Rattle.settings.specs.Tests.{sums_bad}
 use Rattle.settings.specs.Refusals as Call
+use Rattle.settings.specs.Refusals.{refusal}
 use Rattle.settings.proofs.Laws.{known}
 use Rattle.tally.specs.File.{file_of, ten_of, read_refusal}
 
@@ -38,6 +42,19 @@ file_laid t d e1 e2 e3 ten size count version numbers =
     (laid_append d e1 e3 (big 4 81) (big 1 1 ++ bigs 8 t) 0 count (laid_append e1 e2 e3 (big 1 1) (bigs 8 t) 4 version numbers))
     (size ∙ sym (file_length t ten))
 
+-- the same by the code, which puts each number into a part of its own
+pub file_put : (t d l1 l2 l3 : List ℕ) → length t ≡ 10 → length d ≡ 85 → let e1 = put_mid 0 4 d l1 in
+    let e2 = put_mid 4 1 e1 l2 in
+    l1 ≡ big (length (slice_range d 0 4)) 81 → l2 ≡ big (length (slice_range e1 4 5)) 1 → l3 ≡ bigs 8 t
+    → put_mid 5 (length e2 - 5) e2 l3 ≡ file_of t
+file_put t d l1 l2 l3 ten size count version numbers =
+    let w1 = laid_put d l1 0 4 81 (omega arith) count in
+    let w2 = laid_put _ l2 4 1 1 (omega (arith, w1.size)) version in
+    let e = put_mid 4 1 (put_mid 0 4 d l1) l2 in
+    let w3 : Laid e (put_mid 5 (length e - 5) e l3) 5 (bigs 8 t) =
+    rw numbers (laid_part e (bigs 8 t) 5 (length e - 5) (omega (arith, w1.size, w2.size)) (omega (arith, w1.size, w2.size, bigs_length 8 t))) in
+    file_laid t d _ _ _ ten size w1 w2 w3
+
 -- ---- what is read of a file
 
 pub ten_of_lem : (file : List ℕ) → length file ≡ 85 → ten_of file ≡ numbers_at 8 10 file 5
@@ -47,6 +64,14 @@ ten_of_lem file size = rw (eq-eqb (length file) 85 size)
 pub ten_of_other : (file : List ℕ) → (length file ≡ 85 → ⊥) → ten_of file ≡ replicate 10 0
 unfolding ten_of
 ten_of_other file other = rw (ne_eqb (length file) 85 other)
+
+pub ten_length : (file : List ℕ) → length (ten_of file) ≡ 10
+unfolding ten_of
+ten_length file = by_test (eqb (length file) 85)
+  where
+    by_test : (b : Bool) → length (cond b (numbers_at 8 10 file 5) (replicate 10 0)) ≡ 10
+    by_test true = numbers_length 8 10 file 5
+    by_test false = refl
 
 -- ---- what is read of the file of ten numbers
 
@@ -74,6 +99,11 @@ pub record Read (file : List ℕ) (len : ℕ) : Type 0 where
   pub version : part_at 1 file 4 ≡ 1
   pub wraps : sums_bad (ten_of file) ≡ false
   pub lent : len ≡ 10
+
+-- the same question, by what the code has read
+pub asked : (file : List ℕ) (len : ℕ) {count version : ℕ} {numbers : List ℕ} → count ≡ part_at 4 file 0 → version ≡ part_at 1 file 4
+    → numbers ≡ ten_of file → refusal (Call.read_tally (length file) count version numbers len) ≡ read_refusal file len
+asked file len p q r = rw (p, q, r) refl
 
 pub accepted_as : (file : List ℕ) (len : ℕ) → read_refusal file len ≡ 0 → Read file len
 accepted_as file len zero =

@@ -17,7 +17,7 @@ use Rattle.streaming.specs.Streaming.{next_buffer, streamed_with_faces}
 use Rattle.streaming.specs.Source.{Entry, entry, On, index_of, source, target}
 use Rattle.streaming.proofs.Source.{source_on, target_on}
 use Rattle.lossless.specs.Lossless.{Lossless, lossless_of, number_of, Says}
-use Rattle.lossless.specs.declared.Answer.TheVariants as The
+use Rattle.lossless.specs.Answer as The
 use Rattle.lossless.proofs.Criterion.{there, again}
 use Rattle.lossless.proofs.Backward.{next_at}
 use Rattle.lossless.proofs.Whole.{lossless_exactly_when}

@@ -2,6 +2,7 @@ pub mod Tallies
 pub mod Planes
 pub mod Files
 pub mod Round
+pub mod Outcomes
 pub mod Entries
 pub mod Changes
 pub mod Kept

@@ -1,5 +1,5 @@
 -- What the loop over the planes keeps, and where a written entry stands, so that nothing wraps on the way.
-use mathlib.Core.Path.{◌≡◌, ap, ◌∙◌}
+use mathlib.Core.Path.{◌≡◌, refl, ap, ◌∙◌}
 use mathlib.Core.List.{List}
 use Prim.Native.Nat.{ℕ, ◌+◌, ◌*◌, ◌≤◌, ◌<◌}
 use native.Mathlib.Nat.{mul-le-mul_right}
@@ -7,16 +7,10 @@ use native.Mathlib.Omega.{arith}
 use borrow.Author.Count.{below_none, below_more}
 use lib.ListN.{length, get_or, set, length-set}
 use lib.Seq.{get_or-set_same, get_or-set_other}
-use Rattle.grid.specs.Grid.{most_cells}
-use Rattle.grid.proofs.Radix.{within, row_in, index_in}
-use Rattle.sums.specs.Sums.{sum, wrapped}
+use Rattle.sums.specs.Sums.{sum, wrapped, moved_by}
 use Rattle.sums.proofs.Sums.{sum_cong}
-use Rattle.settings.specs.declared.Settings.{Settings}
 use Rattle.settings.specs.Tests.{plane_in}
-use Rattle.settings.specs.Refusals as Call
-use Rattle.settings.specs.Refusals.{refusal}
-use Rattle.settings.proofs.Laws.{known}
-use Rattle.tally.specs.Tally.{plane, tally_of}
+use Rattle.tally.specs.Tally.{plane, tally_of, moved}
 use Rattle.tally.proofs.Tallies.{nine_wrap, is_tally}
 
 -- ---- the planes, one after the other
@@ -54,26 +48,11 @@ module _ (n : ℕ) (f : List ℕ) where
 pub stretch_in : (n i : ℕ) → i < 9 → i * n + n ≤ 9 * n
 stretch_in n i h = omega (arith, mul-le-mul_right n h)
 
--- ---- where an entry stands
+-- ---- one changed entry
 
-pub record Stands (nx ny len x y i : ℕ) : Type 0 where
-  pub row_starts : y * nx ≤ nx * ny
-  pub cell : x + y * nx < nx * ny
-  pub cells : nx * ny ≤ most_cells
-  pub plane_starts : i * (nx * ny) ≤ 9 * (nx * ny)
-  pub inside : x + y * nx + i * (nx * ny) < len
-  pub direction : i < 9
-
-pub stands : (s : Settings) (len x y i : ℕ) → refusal (Call.write_entry s len x y i) ≡ 0 → Stands s.nx s.ny len x y i
-stands s len x y i zero =
-    let k = known (Call.write_entry s len x y i) zero in
-    let at = k.1.1.0 in
-    let hi = k.1.1.1.0 in
-    record {
-      row_starts = omega (arith, row_in s.nx s.ny y at.row);
-      cell = within x y s.nx s.ny at.column at.row;
-      cells = k.0.few;
-      plane_starts = omega (arith, stretch_in (s.nx * s.ny) i hi);
-      inside = omega (arith, index_in s.nx s.ny x y i at.column at.row hi, k.1.0.size);
-      direction = hi;
-    }
+-- the two stores of `shift`: the second finds its number as it was
+pub shifted : (i old new first second : ℕ) (t : List ℕ) → first ≡ moved_by old new (get_or t 0 0)
+    → second ≡ moved_by old new (get_or (set t 0 first) (i + 1) 0) → set (set t 0 first) (i + 1) second ≡ moved i old new t
+unfolding moved
+shifted i old new first second t e is =
+    rw (is, get_or-set_other t 0 (i + 1) first 0 (λ p. omega arith), e) refl

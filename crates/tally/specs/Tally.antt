@@ -1,5 +1,5 @@
 -- The tally of a buffer: ten wrapping sums of its entries' patterns; and how one changed entry moves it.
-use Rattle.std.specs.Prelude.{List, ◌∷◌, ℕ, ◌+◌, ◌*◌, length, get_or, set, replicate}
+use Rattle.std.specs.Prelude.{List, ◌∷◌, ℕ, ◌+◌, ◌*◌, length, get_or, set, replicate, Result, Ok, Err}
 use Rattle.number.specs.Nine.{nine}
 use Rattle.grid.specs.Grid.{index}
 use Rattle.sums.specs.Sums.{sum, wrapped, moved_by}
@@ -7,8 +7,9 @@ use Rattle.settings.specs.declared.Settings.{Settings}
 use Rattle.settings.specs.Tests.{plane_in}
 use Rattle.settings.specs.Refusals as Call
 use Rattle.settings.specs.Refusals.{refusal}
+use Rattle.settings.specs.declared.refused.Refusal.{Refusal}
+use Rattle.settings.specs.Refused.{number}
 use Rattle.settings.specs.Outcome.{answer}
-use Rattle.tally.specs.declared.Tallied.{Tallied}
 
 -- ---- THE TALLY of a buffer of n cells
 
@@ -31,6 +32,16 @@ unfoldable pub moved : ℕ → ℕ → ℕ → List ℕ → List ℕ
 moved i old new t = set (set t 0 (moved_by old new (get_or t 0 0))) (i + 1) (moved_by old new (plane_in t i))
 
 -- ---- outcomes
+
+-- a number of the rules, and the ten numbers of a tally
+pub record Tallied : Type 0 where
+  pub number : ℕ
+  pub tally : List ℕ
+
+-- what the code answers, in these words
+abbrev pub tallied_by : Result (List ℕ) Refusal → Tallied
+tallied_by (Ok t) = record { number = 0; tally = t }
+tallied_by (Err why) = record { number = number why; tally = replicate 10 0 }
 
 -- the tally, and ten zeros where the call is refused
 abbrev pub tallied : Settings → List ℕ → Tallied

@@ -2,20 +2,14 @@
 // a file.
 #![tactic(auto)]
 
-ghost use Rattle.std.specs.Prelude.{◌≡◌, ◌*◌, ◌≤◌, ◌<◌, length, get_or, set};
-ghost use Rattle.grid.specs.Grid.{most_cells};
+ghost use Rattle.std.specs.Prelude.{◌≡◌, ◌*◌, ◌≤◌, ◌<◌, length};
+ghost use Rattle.grid.specs.Grid.{Grid, most_cells, index};
 ghost use Rattle.settings.specs.Outcome.{outcome};
-ghost use Rattle.tally.specs.Tally.{tally_of, moved, tallied, entered, entry_written};
-ghost use Rattle.tally.specs.File.{ten_of, tally_written, tally_read};
+ghost use Rattle.settings.specs.Refused.{number_of};
+ghost use Rattle.tally.specs.Tally.{tally_of, moved, tallied, tallied_by, entered, entry_written};
+ghost use Rattle.tally.specs.File.{file_of, ten_of, tally_written, tally_read};
 
-use settings::Settings;
-
-// A number of the rules, and the ten numbers of a tally: zeros where the call is refused.
-#[derive(Clone, Copy)]
-pub struct Tallied {
-    pub number: u32,
-    pub tally: [u64; 10],
-}
+use settings::{Refusal, Settings};
 
 // ---- the tally afresh
 
@@ -25,43 +19,30 @@ fn fresh(n: usize, f: &[u64]) -> [u64; 10]
     ensures { result ≡ tally_of n f.now }
 {
     let mut t = [0; 10];
-    let mut i = 0;
-    while i < 9 {
+    for i in 0..9 {
         t[i + 1] = sums::stretch(f, i * n, n);
-        i += 1;
     }
     t[0] = sums::stretch(&t, 1, 9);
     t
 }
 
 // The tally of the populations.
-pub fn tally(s: Settings, f: &[u64]) -> Tallied
-    ensures { result ≡ tallied s f.now }
+pub fn tally(s: Settings, f: &[u64]) -> Result<[u64; 10], Refusal>
+    ensures { tallied_by result ≡ tallied s f.now }
 {
-    let number = settings::tally_refusal(s, f.len());
-    if number != 0 {
-        return Tallied {
-            number,
-            tally: [0; 10],
-        };
-    }
-    Tallied {
-        number: 0,
-        tally: fresh(s.nx * s.ny, f),
-    }
+    settings::check_tally(s, f.len())?;
+    Ok(fresh(s.nx * s.ny, f))
 }
 
 // ---- one changed entry
 
-// Writes v as the entry at `at`, and answers what stood there.
-fn swap_in(at: usize, v: u64, f: &mut [u64]) -> u64
-    requires { at < length f.old }
-    ensures old { result ≡ get_or f.old at 0 }
-    ensures put { f.new ≡ set f.old at v }
+// Where entry (x, y, i) stands.
+fn place(nx: usize, ny: usize, x: usize, y: usize, i: usize) -> usize
+    requires { Grid nx ny × (x < nx) × (y < ny) × (i < 9) }
+    ensures entry { result ≡ index nx ny x y i }
+    ensures inside { result < 9 * (nx * ny) }
 {
-    let old = f[at];
-    f[at] = v;
-    old
+    x + y * nx + i * (nx * ny)
 }
 
 // Moves two of any ten numbers by the new pattern less the old.
@@ -69,10 +50,8 @@ fn shift(i: usize, old: u64, new: u64, t: &mut [u64; 10])
     requires { i < 9 }
     ensures { t.new ≡ moved i old new t.old }
 {
-    let first = sums::moved_by(old, new, t[0]);
-    let plane = sums::moved_by(old, new, t[i + 1]);
-    t[0] = first;
-    t[i + 1] = plane;
+    t[0] = sums::moved_by(old, new, t[0]);
+    t[i + 1] = sums::moved_by(old, new, t[i + 1]);
 }
 
 // Writes v as entry (x, y, i) of f, and moves t by it, whatever ten numbers it holds.
@@ -84,33 +63,35 @@ pub fn write_entry(
     v: u64,
     f: &mut [u64],
     t: &mut [u64; 10],
-) -> u32
-    ensures { entered result f.new t.new
+) -> Result<(), Refusal>
+    ensures { entered (number_of result) f.new t.new
         ≡ entry_written s x y i v f.old t.old }
 {
-    let number = settings::write_entry_refusal(s, f.len(), x, y, i);
-    if number != 0 {
-        return number;
-    }
-    let old = swap_in(x + y * s.nx + i * (s.nx * s.ny), v, f);
+    settings::check_write_entry(s, f.len(), x, y, i)?;
+    let old = std::mem::replace(&mut f[place(s.nx, s.ny, x, y, i)], v);
     shift(i, old, v, t);
-    0
+    Ok(())
 }
 
 // ---- the file
 
-// Writes the file of these ten numbers.
-pub fn write_tally(t: &[u64; 10], file: &mut [u8]) -> u32
-    ensures { outcome result file.new ≡ tally_written t.now file.old }
+// The whole file: count, version and the ten numbers.
+fn write_file(t: &[u64; 10], file: &mut [u8])
+    requires { length file.old ≡ 85 }
+    ensures { file.new ≡ file_of t.now }
 {
-    let number = settings::write_tally_refusal(t, file.len());
-    if number != 0 {
-        return number;
-    }
-    words::put_number(4, 81, file, 0);
-    words::put_number(1, 1, file, 4);
-    words::write_words(t, file, 5);
-    0
+    words::put_number(81, &mut file[0..4]);
+    words::put_number(1, &mut file[4..5]);
+    words::write_words(t, &mut file[5..]);
+}
+
+// Writes the file of these ten numbers.
+pub fn write_tally(t: &[u64; 10], file: &mut [u8]) -> Result<(), Refusal>
+    ensures { outcome (number_of result) file.new ≡ tally_written t.now file.old }
+{
+    settings::check_write_tally(t, file.len())?;
+    write_file(t, file);
+    Ok(())
 }
 
 // The ten numbers of a file; zeros where it has not the length of one.
@@ -118,23 +99,20 @@ fn ten(file: &[u8]) -> [u64; 10]
     ensures { result ≡ ten_of file.now }
 {
     let mut t = [0; 10];
-    if file.len() != settings::TALLY_FILE {
-        return t;
+    if file.len() == settings::TALLY_FILE {
+        words::read_words(&file[5..], &mut t);
     }
-    words::read_words(file, 5, &mut t);
     t
 }
 
 // Reads a file into t.
-pub fn read_tally(file: &[u8], t: &mut [u64]) -> u32
-    ensures { outcome result t.new ≡ tally_read file.now t.old }
+pub fn read_tally(file: &[u8], t: &mut [u64]) -> Result<(), Refusal>
+    ensures { outcome (number_of result) t.new ≡ tally_read file.now t.old }
 {
     let count = words::part(4, file, 0) as usize;
     let version = words::part(1, file, 4) as usize;
-    let number = settings::read_tally_refusal(file.len(), count, version, &ten(file), t.len());
-    if number != 0 {
-        return number;
-    }
-    words::read_words(file, 5, t);
-    0
+    let numbers = ten(file);
+    settings::check_read_tally(file.len(), count, version, &numbers, t.len())?;
+    t.copy_from_slice(&numbers);
+    Ok(())
 }

@@ -1,4 +1,5 @@
 // One cell about its floor: what is read of it, and what it is after collision.
+use crate::grids::AT_REST;
 use crate::{show, studies};
 use settings::Settings;
 use std::io;
@@ -15,9 +16,9 @@ const BEFORE: [u64; 6] = [
 
 // The velocity, then the nine post-collision entries.
 fn show_cell(rt: &impl Print, s: Settings, f: &mut [u64], post: &mut [u64]) -> io::Result<()> {
-    let u = readings::velocity(s, f, 0, 0);
-    show::words(rt, &[number::pattern(u.ux), number::pattern(u.uy)])?;
-    runs::step(s, f, post);
+    let u = readings::velocity(s, f, 0, 0).unwrap_or(AT_REST);
+    show::numbers(rt, &[u.ux, u.uy])?;
+    runs::step(s, f, post).unwrap_or(());
     show::words(rt, post)
 }
 
@@ -25,12 +26,12 @@ fn show_cell(rt: &impl Print, s: Settings, f: &mut [u64], post: &mut [u64]) -> i
 // either sign.
 fn one(rt: &impl Print, k: u64) -> io::Result<()> {
     let before = BEFORE[(k / 6 % 6) as usize];
-    let beside = std::num::wrapping_add_u64(before, k % 3);
+    let beside = before.wrapping_add(k % 3);
     let sign = k / 3 % 2 * 0x8000_0000_0000_0000;
     let fx = studies::wanted(k % 5 < 2, 0.01);
     let collision = studies::collision(k / 36, 1.25);
     let mut s = studies::periodic(1, 1, 0.1, fx, 0.0, collision);
-    s.floor = number::value(std::num::wrapping_add_u64(before, 1));
+    s.floor = number::value(before.wrapping_add(1));
     let mut f = [0; 9];
     f[(1 + k % 8) as usize] = sign | beside;
     show_cell(rt, s, &mut f, &mut [0; 9])

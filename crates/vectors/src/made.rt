@@ -8,11 +8,7 @@ pub fn shifted(x: u64) -> u64 {
 
 // The number n after x.
 pub fn past(n: u64, x: u64) -> u64 {
-    let mut x = x;
-    for k in 0..n {
-        x = shifted(x);
-    }
-    x
+    (0..n).fold(x, |x, _| shifted(x))
 }
 
 // NaNs with payloads, infinities, zeros, subnormals, huge and tiny numbers, and some plain ones.
@@ -35,50 +31,71 @@ const SPECIAL: [u64; 16] = [
     0xbfe5_5555_5555_5555,
 ];
 
-// Mode 0: from 0.5 to 1; mode 1: any pattern; mode 2: one in four special, the rest from 0.5 to 1; mode 3: from 1/16 to 1/8,
-// so that nine are near the density 1.
-pub fn pattern(mode: u64, x: u64) -> u64 {
-    if mode == 1 {
-        return x;
+// What a made-up pattern is drawn from.
+#[derive(Clone, Copy, Debug, PartialEq, Eq)]
+pub enum Mode {
+    // from 0.5 to 1
+    Plain,
+    // any pattern
+    Any,
+    // one in four special, the rest from 0.5 to 1
+    Mixed,
+    // from 1/16 to 1/8, so that nine are near the density 1
+    Thin,
+}
+
+impl Mode {
+    // The mode of a number below 4.
+    pub fn of(k: u64) -> Mode {
+        match k {
+            0 => Mode::Plain,
+            1 => Mode::Any,
+            2 => Mode::Mixed,
+            _ => Mode::Thin,
+        }
     }
-    if (mode == 2) & (x % 4 == 0) {
-        return SPECIAL[((x >> 8) % 16) as usize];
-    }
-    if mode == 3 {
-        return 0x3fb0_0000_0000_0000 | (x >> 12);
-    }
+}
+
+fn plain(x: u64) -> u64 {
     0x3fe0_0000_0000_0000 | (x >> 12)
 }
 
-pub fn number(mode: u64, x: u64) -> f64 {
+pub fn pattern(mode: Mode, x: u64) -> u64 {
+    match mode {
+        Mode::Plain => plain(x),
+        Mode::Any => x,
+        Mode::Mixed => {
+            if x % 4 == 0 {
+                SPECIAL[((x >> 8) % 16) as usize]
+            } else {
+                plain(x)
+            }
+        }
+        Mode::Thin => 0x3fb0_0000_0000_0000 | (x >> 12),
+    }
+}
+
+pub fn number(mode: Mode, x: u64) -> f64 {
     number::value(pattern(mode, x))
 }
 
 // Nine numbers from x on, and the number after them.
-#[derive(Clone, Copy)]
-pub struct Drawn {
-    pub f: [f64; 9],
-    pub x: u64,
-}
-
-pub fn nine(mode: u64, x: u64) -> Drawn {
+pub fn nine(mode: Mode, x: u64) -> ([f64; 9], u64) {
     let mut f = [0.0; 9];
     let mut x = x;
-    for i in 0..9 {
+    for v in &mut f {
         x = shifted(x);
-        f[i] = number(mode, x);
+        *v = number(mode, x);
     }
-    Drawn { f, x }
+    (f, x)
 }
 
 // Fills a with patterns from x on; answers the number after them.
-pub fn fill(a: &mut [u64], mode: u64, x: u64) -> u64 {
+pub fn fill(a: &mut [u64], mode: Mode, x: u64) -> u64 {
     let mut x = x;
-    let mut k = 0;
-    while k < a.len() {
+    for b in a {
         x = shifted(x);
-        a[k] = pattern(mode, x);
-        k += 1;
+        *b = pattern(mode, x);
     }
     x
 }

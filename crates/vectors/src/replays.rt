@@ -1,16 +1,15 @@
 // Runs of the studies of a grid: a single step, or as many steps as are drawn.
 use crate::{made, show, studies};
-use settings::Settings;
+use settings::{Refusal, Settings};
 use std::io;
 
 const STEPS: [u64; 4] = [0, 1, 2, 7];
 
-// Choice 4 is the single step.
-fn go(s: Settings, choice: u64, f: &mut [u64], post: &mut [u64]) -> u32 {
-    if choice < 4 {
-        runs::run(s, STEPS[choice as usize], f, post)
-    } else {
-        runs::step(s, f, post)
+// A choice beyond the table is the single step.
+fn go(s: Settings, choice: usize, f: &mut [u64], post: &mut [u64]) -> Result<(), Refusal> {
+    match STEPS.get(choice) {
+        Some(steps) => runs::run(s, *steps, f, post),
+        None => runs::step(s, f, post),
     }
 }
 
@@ -26,7 +25,7 @@ fn one(
 ) -> io::Result<u64> {
     let s = studies::drawn(nx, ny, q, x);
     let c = made::shifted(studies::fill(x, f, post));
-    let number = go(s, c % 5, f, post);
+    let number = settings::number_of(go(s, (c % 5) as usize, f, post));
     show::words(rt, &[number as u64, show::mixed(f), show::mixed(post)])?;
     Ok(c)
 }

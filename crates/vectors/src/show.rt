@@ -1,48 +1,30 @@
 // Writes patterns in hexadecimal, a space between two and a newline at the end of a line.
+use crate::made;
 use std::io;
 
-pub fn word(rt: &impl Print, b: u64) -> io::Result<()> {
-    print!(rt; "{b:016x}")
-}
-
-pub fn space(rt: &impl Print) -> io::Result<()> {
-    rt.write_all(b" ")
-}
-
-pub fn newline(rt: &impl Print) -> io::Result<()> {
-    rt.write_all(b"\n")
-}
-
-// The patterns of nine numbers, as a line.
-pub fn nine(rt: &impl Print, f: [f64; 9]) -> io::Result<()> {
-    word(rt, number::pattern(f[0]))?;
-    for i in 1..9 {
-        space(rt)?;
-        word(rt, number::pattern(f[i]))?;
+// The patterns of a list, as a line.
+fn line<T: Copy, F: Fn(T) -> u64>(rt: &impl Print, list: &[T], pattern: F) -> io::Result<()>
+    requires { F.IsAlwaysCallable pattern }
+{
+    for (k, x) in list.iter().enumerate() {
+        let space = if k == 0 { "" } else { " " };
+        let word = pattern(*x);
+        print!(rt; "{space}{word:016x}")?;
     }
-    newline(rt)
+    println!(rt; "")
+}
+
+// The patterns of numbers, as a line.
+pub fn numbers(rt: &impl Print, list: &[f64]) -> io::Result<()> {
+    line(rt, list, number::pattern)
 }
 
 // Patterns, as a line.
-pub fn words(rt: &impl Print, a: &[u64]) -> io::Result<()> {
-    let mut k = 0;
-    while k < a.len() {
-        if 0 < k {
-            space(rt)?;
-        }
-        word(rt, a[k])?;
-        k += 1;
-    }
-    newline(rt)
+pub fn words(rt: &impl Print, list: &[u64]) -> io::Result<()> {
+    line(rt, list, |b| b)
 }
 
 // One number for a long list of patterns.
 pub fn mixed(a: &[u64]) -> u64 {
-    let mut s = 1;
-    let mut k = 0;
-    while k < a.len() {
-        s = crate::made::shifted(std::num::wrapping_add_u64(s, a[k]));
-        k += 1;
-    }
-    s
+    a.iter().fold(1, |s, b| made::shifted(s.wrapping_add(*b)))
 }

@@ -2,6 +2,7 @@
 use crate::{made, show, studies};
 use cell::Collision;
 use runs::Steady;
+use settings::Refusal;
 use std::io;
 
 // Infinity, -1.0, 0.0, 0.1, 0.01 and 0.001.
@@ -31,27 +32,27 @@ struct Values {
     residual: f64,
 }
 
-fn values_of(answer: Steady) -> Values {
+fn values_of(answer: Result<Steady, Refusal>) -> Values {
     match answer {
-        Steady::Refused(number) => Values {
-            number,
+        Err(why) => Values {
+            number: why.number(),
             settled: 0,
             steps: 0,
             residual: 0.0,
         },
-        Steady::Settled(steps, residual) => Values {
+        Ok(Steady::Settled(steps, residual)) => Values {
             number: 0,
             settled: 1,
             steps,
             residual,
         },
-        Steady::RanOut(steps, residual) => Values {
+        Ok(Steady::RanOut(steps, residual)) => Values {
             number: 0,
             settled: 0,
             steps,
             residual,
         },
-        Steady::Ruined(steps) => Values {
+        Ok(Steady::Ruined(steps)) => Values {
             number: 9,
             settled: 0,
             steps,
@@ -63,7 +64,7 @@ fn values_of(answer: Steady) -> Values {
 // The answer, and what the three buffers then hold.
 fn show_answer(
     rt: &impl Print,
-    answer: Steady,
+    answer: Result<Steady, Refusal>,
     f: &[u64],
     post: &[u64],
     u: &[u64],
@@ -96,7 +97,7 @@ fn one(
 ) -> io::Result<u64> {
     let s = studies::drawn(nx, ny, q, x);
     let c = made::shifted(studies::fill(x, f, post));
-    let next = made::fill(u, 1, c);
+    let next = made::fill(u, made::Mode::Any, c);
     let tolerance = number::value(TOLERANCES[(c % 6) as usize]);
     let most = (c >> 8) % 8 * 20;
     let every = EVERY[((c >> 16) % 4) as usize];

@@ -20,8 +20,8 @@ fn one(
     f: &mut [u64],
 ) -> io::Result<u64> {
     let s = settings_of(nx, ny, q, x);
-    let next = made::fill(post, q % 3, made::past(12, x));
-    streaming::stream_with_faces(s, post, f);
+    let next = made::fill(post, made::Mode::of(q % 3), made::past(12, x));
+    streaming::stream_with_faces(s, post, f).unwrap_or(());
     show::words(rt, &[show::mixed(f)])?;
     Ok(next)
 }

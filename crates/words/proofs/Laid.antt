@@ -1,36 +1,35 @@
 -- Bytes that are written: number after number, and lists that meet.
 use mathlib.Core.Path.{◌≡◌, refl, sym, ap, ◌∙◌}
 use mathlib.Core.List.{List, [], ◌++◌}
-use Prim.Native.Nat.{ℕ, zero, suc, ◌+◌, ◌*◌, ◌≤◌, ◌<◌}
+use Prim.Native.Nat.{ℕ, zero, suc, ◌+◌, ◌≤◌, ◌<◌}
 use native.Mathlib.Nat.{zero-add}
-use native.Mathlib.Omega.{arith}
-use lib.ListN.{length, get_or, set, length-append, get_or-append}
+use Rattle.std.proofs.Common.{arith, rules, slice_range}
+use borrow.Rule.Slice.PartMut.{put_mid}
+use Rattle.std.proofs.lemmas.Slice.{overwrites}
+use Rattle.std.proofs.lemmas.List.{places}
+use Rattle.std.proofs.lemmas.List.Edits.{length-between}
+use lib.ListN.{length, get_or, length-append, get_or-append}
 use lib.Seq.{ext_get_or, get_or-append-add}
-use Rattle.grid.specs.Writes.{Wrote}
-use Rattle.grid.proofs.Writes.{one_more, join, same_values, to_length}
+use Rattle.grid.proofs.Writes.{join, same_values, to_length}
 use Rattle.words.specs.Words.{big, bigs, number_at, part_at, numbers_at, Laid}
-use Rattle.words.proofs.Words.{Bytes, big_length, bigs_at, numbers_length, numbers_at_lem, bytes_of, part_of}
+use Rattle.words.proofs.Words.{Bytes, big_length, bytes_of, part_of}
 
--- ---- numbers of eight bytes, one more
+-- ---- a write into a part of a buffer
 
-pub word_more : (d e g f : List ℕ) (at k v : ℕ) → k < length f → v ≡ get_or f k 0 → Wrote d e at (8 * k) (λ j. get_or (bigs 8 f) j 0)
-    → Laid e g (at + 8 * k) (big 8 v) → Wrote d g at (8 * (k + 1)) (λ j. get_or (bigs 8 f) j 0)
-word_more d e g f at k v h is w l =
-    let eight = big_length 8 v in
-    to_length
-    (join d e g at (8 * k) 8 (λ j. get_or (bigs 8 f) j 0) w
-    (same_values (λ j b. ap (λ (a : ℕ). get_or (big 8 a) j 0) is ∙ sym (bigs_at 8 f k j h b)) (to_length l eight)))
-    (omega arith)
+pub laid_part : (d l : List ℕ) (at n : ℕ) → at + n ≤ length d → length l ≡ n → Laid d (put_mid at n d l) at l
+laid_part d l at n h size = record {
+  size = search (rules, overwrites);
+  inside = λ k b. search (rules, places);
+  below = λ j b. search (rules, places);
+  above = λ j b. search (rules, places);
+}
 
--- entry k of a buffer from its start, by the code `e[k] = a`
-pub entry_more : (d e : List ℕ) (k a : ℕ) (v : ℕ → ℕ) → Wrote d e 0 k v → k < length d → a ≡ v k → Wrote d (set e k a) 0 (k + 1) v
-entry_more d e k a v w h is = rw (zero-add k) at (one_more d e 0 k v a w (omega arith) is)
-
-pub numbers_all : (d e b : List ℕ) (at k : ℕ) → Wrote d e 0 k (λ j. number_at 8 b (at + 8 * j)) → k ≡ length d → e ≡ numbers_at 8 (length d) b at
-numbers_all d e b at k w all =
-    ext_get_or 0 e (numbers_at 8 (length d) b at) (w.size ∙ sym (numbers_length 8 (length d) b at))
-    (λ j h. let l : j < length d = omega (arith, w.size) in
-    ap (λ (i : ℕ). get_or e i 0) (sym (zero-add j)) ∙ w.inside j (omega arith) ∙ sym (numbers_at_lem 8 (length d) b at j l))
+-- a number put there, by the code `put_number(v, &mut d[from..to])`
+pub laid_put : (d l : List ℕ) (from n v : ℕ) → from + n ≤ length d → l ≡ big (length (slice_range d from (from + n))) v → Laid d (put_mid from n d l) from (big n v)
+laid_put d l from n v h is =
+    let size : length (slice_range d from (from + n)) ≡ n = length-between d from (from + n) h ∙ omega arith in
+    let put : l ≡ big n v = is ∙ ap (λ (k : ℕ). big k v) size in
+    rw put (laid_part d (big n v) from n h (big_length n v))
 
 -- ---- two lists that meet
 

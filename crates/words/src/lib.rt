@@ -2,28 +2,20 @@
 #![tactic(auto)]
 
 ghost use Rattle.std.specs.Prelude.{◌≡◌, ◌+◌, ◌*◌, ◌^◌, ◌≤◌, ◌<◌, length};
-ghost use Rattle.words.specs.Words.{byte_of, big, bigs, number_at, part_at, numbers_at, Laid};
+ghost use Rattle.words.specs.Words.{big, bigs, number_at, part_at, numbers_at};
 
 // ---- reading
 
-fn wide(byte: u8) -> u64
-    ensures { result ≡ byte }
+// The number that at most eight bytes spell.
+pub fn number_of(bytes: &[u8]) -> u64
+    requires { length bytes.now ≤ 8 }
+    ensures { result ≡ number_at (length bytes.now) bytes.now 0 }
 {
-    byte as u64
-}
-
-// The number that the n bytes of b from `at` on spell.
-pub fn number_at(n: usize, b: &[u8], at: usize) -> u64
-    requires { (n ≤ 8) × (at + n ≤ length b.now) }
-    ensures { result ≡ number_at n b.now at }
-{
-    let mut v = 0;
-    let mut k = 0;
-    while k < n {
-        v = v * 256 + wide(b[at + k]);
-        k += 1;
+    let mut number = 0;
+    for byte in bytes {
+        number = number * 256 + u64::from(*byte);
     }
-    v
+    number
 }
 
 // The number that the n bytes of b from `at` on spell; 0 where b ends before.
@@ -31,54 +23,36 @@ pub fn part(n: usize, b: &[u8], at: usize) -> u64
     requires { (n ≤ 8) × (at + n < 2 ^ 64) }
     ensures { result ≡ part_at n b.now at }
 {
-    if b.len() < at + n {
-        return 0;
-    }
-    number_at(n, b, at)
+    b.get(at..at + n).map_or(0, number_of)
 }
 
-// Fills f with numbers of eight bytes each, from `at` on.
-pub fn read_words(b: &[u8], at: usize, f: &mut [u64])
-    requires { at + 8 * length f.old ≤ length b.now }
-    ensures { f.new ≡ numbers_at 8 (length f.old) b.now at }
+// Fills f with numbers of eight bytes each.
+pub fn read_words(bytes: &[u8], f: &mut [u64])
+    requires { 8 * length f.old ≤ length bytes.now }
+    ensures { f.new ≡ numbers_at 8 (length f.old) bytes.now 0 }
 {
-    let mut k = 0;
-    while k < f.len() {
-        f[k] = number_at(8, b, at + 8 * k);
-        k += 1;
+    for (k, entry) in f.iter_mut().enumerate() {
+        *entry = number_of(&bytes[8 * k..8 * k + 8]);
     }
 }
 
 // ---- writing
 
-// The byte of v that counts 256 to the j.
-fn byte_of(v: u64, j: usize) -> u8
-    requires { j < 8 }
-    ensures { result ≡ byte_of v j }
+// Writes a number into all of at most eight bytes.
+pub fn put_number(number: u64, bytes: &mut [u8])
+    requires { length bytes.old ≤ 8 }
+    ensures { bytes.new ≡ big (length bytes.old) number }
 {
-    ((v >> (8 * j)) % 256) as u8
+    let unused = 8 - bytes.len();
+    bytes.copy_from_slice(&number.to_be_bytes()[unused..]);
 }
 
-// Writes v in n bytes into b, from `at` on.
-pub fn put_number(n: usize, v: u64, b: &mut [u8], at: usize)
-    requires { (n ≤ 8) × (at + n ≤ length b.old) }
-    ensures { Laid b.old b.new at (big n v) }
+// Writes every number of f in eight bytes.
+pub fn write_words(f: &[u64], bytes: &mut [u8])
+    requires { length bytes.old ≡ 8 * length f.now }
+    ensures { bytes.new ≡ bigs 8 f.now }
 {
-    let mut k = 0;
-    while k < n {
-        b[at + k] = byte_of(v, n - 1 - k);
-        k += 1;
-    }
-}
-
-// Writes every number of f in eight bytes into b, from `at` on.
-pub fn write_words(f: &[u64], b: &mut [u8], at: usize)
-    requires { at + 8 * length f.now ≤ length b.old }
-    ensures { Laid b.old b.new at (bigs 8 f.now) }
-{
-    let mut k = 0;
-    while k < f.len() {
-        put_number(8, f[k], b, at + 8 * k);
-        k += 1;
+    for (k, entry) in f.iter().enumerate() {
+        put_number(*entry, &mut bytes[8 * k..8 * k + 8]);
     }
 }

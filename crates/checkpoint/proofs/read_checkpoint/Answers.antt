@@ -1,44 +1,25 @@
 -- `checkpoint::read_checkpoint` meets its contract: past the refusal the file has an entry for each of the lent buffer.
-use mathlib.Core.Path.{◌≡◌, sym, ap, ap₂, ◌∙◌}
-use Prim.Native.Nat.{ℕ}
-use native.Mathlib.Omega.{arith}
-use lib.ListN.{length}
-use Rattle.words.specs.Words.{numbers_at}
+use Rattle.std.proofs.Common.{◌∙◌, sym, ap, length, arith}
 use Rattle.settings.specs.declared.Head.{Head}
 use Rattle.settings.specs.Refusals as Call
-use Rattle.settings.specs.Refusals.{tests, refusal}
-use Rattle.settings.proofs.Laws.{All, known}
-use Rattle.settings.proofs.Outcome.{answered, refused}
-use Rattle.checkpoint.specs.Checkpoint.{head_of, told, read}
+use Rattle.settings.proofs.Laws.{known}
+use Rattle.checkpoint.proofs.Told.{read_of, read_done, read_refused}
 use Rattle.checkpoint.proofs.read_checkpoint.Goals as goal
 
-pub returns-then-number-ne0 : goal.returns-then-number-ne0
-returns-then-number-ne0 c = let number_is : let a = c.args in
-    c.read_checkpoint_refusal-number.result ≡ refusal (Call.read_checkpoint (head_of a.file.now) (length a.f.now)) = let a = c.args in
-    c.read_checkpoint_refusal-number.ensures
-    ∙ ap (λ (h : Head). refusal (Call.read_checkpoint h (length a.f.now))) c.head-h.ensures in
-    ap₂ read (c.tell.ensures ∙ ap₂ told number_is c.head-h.ensures)
-    (refused _ (λ _. c.args.f.now) number_is c.if-number-ne0.true)
+pub returns-in_err-check_read_checkpoint : goal.returns-in_err-check_read_checkpoint
+returns-in_err-check_read_checkpoint c =
+    let a = c.args in
+    read_refused c.head-h.result a.file.now a.f.now _ _ c.from_residual.ensures.1 c.in_err-check_read_checkpoint.ensures
+    ∙ ap (read_of a.file.now a.f.now) c.head-h.ensures
 
-pub read_words-requires : goal.read_words-requires
-read_words-requires c = let number_is : let a = c.args in
-    c.read_checkpoint_refusal-number.result ≡ refusal (Call.read_checkpoint (head_of a.file.now) (length a.f.now)) = let a = c.args in
-    c.read_checkpoint_refusal-number.ensures
-    ∙ ap (λ (h : Head). refusal (Call.read_checkpoint h (length a.f.now))) c.head-h.ensures in
-    let passed : let a = c.args in
-    All (tests (Call.read_checkpoint (head_of a.file.now) (length a.f.now))) = let a = c.args in
-    known (Call.read_checkpoint (head_of a.file.now) (length a.f.now)) (sym number_is ∙ c.if-number-ne0.false) in
-    let k = passed in omega (arith, k.1.1.1.1.0.size, k.1.1.1.1.1.0)
+pub read_entries-requires : goal.read_entries-requires
+read_entries-requires c =
+    let a = c.args in
+    let k = known (Call.read_checkpoint c.head-h.result (length a.f.now)) (sym c.in_ok-check_read_checkpoint.ensures) in
+    omega (arith, ap (λ (h : Head). h.length) c.head-h.ensures, k.1.1.1.1.0.size, k.1.1.1.1.1.0)
 
 pub returns : goal.returns
-returns c = let number_is : let a = c.args in
-    c.read_checkpoint_refusal-number.result ≡ refusal (Call.read_checkpoint (head_of a.file.now) (length a.f.now)) = let a = c.args in
-    c.read_checkpoint_refusal-number.ensures
-    ∙ ap (λ (h : Head). refusal (Call.read_checkpoint h (length a.f.now))) c.head-h.ensures in
-    let passed : let a = c.args in
-    All (tests (Call.read_checkpoint (head_of a.file.now) (length a.f.now))) = let a = c.args in
-    known (Call.read_checkpoint (head_of a.file.now) (length a.f.now)) (sym number_is ∙ c.if-number-ne0.false) in
+returns c =
     let a = c.args in
-    ap₂ read (c.tell-2.ensures ∙ ap₂ told number_is c.head-h.ensures)
-    (answered _ number_is c.if-number-ne0.false
-    (c.read_words.ensures ∙ ap (λ (m : ℕ). numbers_at 8 m a.file.now 13) passed.1.1.1.1.1.0))
+    read_done c.head-h.result _ a.file.now a.f.now _ c.in_ok-check_read_checkpoint.ensures c.from.ensures c.read_entries.ensures
+    ∙ ap (read_of a.file.now a.f.now) c.head-h.ensures

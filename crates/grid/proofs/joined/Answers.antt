@@ -1,13 +1,11 @@
--- `grid::joined` meets its contract. The loop's invariant: the first k entries are joined.
-use native.Mathlib.Omega.{arith}
-use Rattle.number.proofs.Joined.{joined_none, joined_more, joined_to_length}
+-- `grid::joined` meets its contract: the fold over the entries joins them.
+use Rattle.std.proofs.Common.{◌≡◌, ◌∙◌, rules}
+use Rattle.std.specs.List.{fold}
+use Rattle.std.specs.Int.Bits.{bit_or}
+use Rattle.number.specs.Joined.{raised_of}
+use Rattle.grid.proofs.Finite.{joined_folded}
 use Rattle.grid.proofs.joined.Goals as goal
 
-pub loop-k-init : goal.loop-k-init
-loop-k-init c = (omega arith, joined_none _)
-
-pub loop-k-preserved : goal.loop-k-preserved
-loop-k-preserved c = (omega arith, joined_more _ _ _ _ c.loop-k.invariant.1 c.raised-bits.ensures)
-
 pub returns : goal.returns
-returns c = joined_to_length _ c.loop-k.invariant.1 (omega arith)
+returns c =
+    let e : c.fold.result ≡ fold (λ r x. bit_or r (raised_of x)) 0 c.args.b.now = search rules in e ∙ joined_folded c.args.b.now

@@ -1,11 +1,14 @@
--- `line::answer_to` meets its contract: the answer, which has room, stands at the start of zeros.
-use mathlib.Core.Path.{ap}
-use Rattle.line.specs.Text.{handed}
+-- `line::answer_to` meets its contract: the answer has room.
+use mathlib.Core.Path.{◌∙◌}
+use Rattle.line.proofs.Forms.{is_answer, is_unreadable}
 use Rattle.line.proofs.Sizes.{short}
 use Rattle.line.proofs.answer_to.Goals as goal
 
-pub put_answer_to-count-requires : goal.put_answer_to-count-requires
-put_answer_to-count-requires c = short _
+pub worded-requires : goal.worded-requires
+worded-requires c = rw (is_answer _ c.in-Some.ensures c.lossless.ensures) (short _)
 
-pub returns : goal.returns
-returns c = ap handed c.put_answer_to-count.ensures
+pub returns-in-Some : goal.returns-in-Some
+returns-in-Some c = c.worded.ensures ∙ is_answer _ c.in-Some.ensures c.lossless.ensures
+
+pub returns-in-None : goal.returns-in-None
+returns-in-None c = c.whole.ensures ∙ is_unreadable _ c.in-None.ensures

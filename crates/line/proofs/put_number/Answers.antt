@@ -2,17 +2,18 @@
 use mathlib.Core.Path.{ap, ◌∙◌}
 use native.Mathlib.Omega.{arith}
 use lib.ListN.{length}
-use Rattle.line.proofs.Puts.{ends, then}
+use Rattle.std.proofs.lemmas.Grind.{common_steps}
 use Rattle.line.proofs.Decimal.{fewest_decimal}
 use Rattle.line.proofs.put_number.Goals as goal
 
-pub put-requires : goal.put-requires
-put-requires c =
+pub put-requires-2 : goal.put-requires-2
+put-requires-2 c =
     let digits = c.decimal-k.ensures in
-    omega (arith, ends _ _ _ c.put-at.ensures, ap length (digits.digits ∙ fewest_decimal _ _ digits.len))
+    let said = digits.digits ∙ fewest_decimal _ _ digits.len in
+    grind (arith, common_steps, ap length said)
 
 pub returns : goal.returns
 returns c =
     let digits = c.decimal-k.ensures in
-    rw (← (digits.digits ∙ fewest_decimal _ _ digits.len))
-    (then _ _ _ _ (omega arith) c.put-at.ensures c.put.ensures)
+    let said = digits.digits ∙ fewest_decimal _ _ digits.len in
+    grind (arith, common_steps, said)

@@ -1,10 +1,7 @@
-use mathlib.Core.Path.{◌≡◌}
-use Prim.Native.Nat.{◌≤◌, ◌-◌}
-use lib.ListN.{length}
+use Rattle.std.proofs.Common.{◌≤◌}
+use Rattle.arrayvec.specs.ArrayVec.{array_vec_len}
 use Rattle.lossless_line.proofs.read.Given as goal
 
-abbrev pub invariant-loop-n : goal.invariant-loop-n
-invariant-loop-n g l = (l.n ≤ length l.bytes) × (length l.bytes ≡ length l.initial.bytes) × (length l.one ≡ 1)
-
-abbrev pub decreases-loop-n : goal.decreases-loop-n
-decreases-loop-n g l = length l.initial.bytes - l.n
+-- a byte a turn at most
+abbrev pub invariant-loop : goal.invariant-loop
+invariant-loop g l = array_vec_len l.bytes ≤ l.counter

@@ -1,21 +1,6 @@
--- `readings::kinetic_energy` meets its contract: past the refusal the populations are those of the grid.
-use mathlib.Core.Path.{sym, ◌∙◌}
-use Rattle.number.specs.Number.{c0}
-use Rattle.settings.specs.Refusals as Call
-use Rattle.settings.proofs.Laws.{known}
-use Rattle.settings.proofs.Outcome.{answered, refused}
+-- `readings::kinetic_energy` meets its contract: a refused reading has its number.
+use Rattle.readings.proofs.Answered.{not_read}
 use Rattle.readings.proofs.kinetic_energy.Goals as goal
 
-pub returns-then-number-ne0 : goal.returns-then-number-ne0
-returns-then-number-ne0 c =
-    refused _ (λ n. record { number = n; value = c0 }) c.kinetic_energy_refusal-number.ensures c.if-number-ne0.true
-
-pub energy-requires : goal.energy-requires
-energy-requires c =
-    let s = c.args.s in
-    let k = known (Call.kinetic_energy s _) (sym c.kinetic_energy_refusal-number.ensures ∙ c.if-number-ne0.false) in record { grid = k.0; f_len = k.1.0.size }
-
-pub returns : goal.returns
-returns c =
-    answered _ c.kinetic_energy_refusal-number.ensures c.if-number-ne0.false
-    (λ i. record { number = 0; value = c.energy.ensures i })
+pub returns-in_err-check_kinetic_energy : goal.returns-in_err-check_kinetic_energy
+returns-in_err-check_kinetic_energy c = not_read _ _ _ c.from_residual.ensures.1 c.in_err-check_kinetic_energy.ensures

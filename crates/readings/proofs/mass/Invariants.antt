@@ -1,11 +1,8 @@
-use Prim.Native.Nat.{◌-◌}
-use Rattle.number.proofs.Nine.{Summed}
-use Rattle.grid.specs.Grid.{cell_of}
-use Rattle.cell.specs.Cell.{density_of}
+use Rattle.std.proofs.Common.{◌≡◌}
+use Rattle.number.specs.Nine.{sum_to}
+use Rattle.readings.specs.Readings.{density_at}
 use Rattle.readings.proofs.mass.Given as goal
 
+-- the cells below c are summed
 abbrev pub invariant-loop-c : goal.invariant-loop-c
-invariant-loop-c l = Summed (λ k. density_of (cell_of l.f l.n k)) l.n l.sum l.c
-
-abbrev pub decreases-loop-c : goal.decreases-loop-c
-decreases-loop-c l = l.n - l.c
+invariant-loop-c l = l.sum ≡ sum_to (density_at l.fn.s l.f) l.c

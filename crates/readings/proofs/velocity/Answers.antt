@@ -1,44 +1,6 @@
--- `readings::velocity` meets its contract: past the refusal (x, y) is a cell of the grid.
-use mathlib.Core.Path.{sym, ◌∙◌}
-use Prim.Native.Nat.{◌+◌, ◌*◌}
-use native.Mathlib.Omega.{arith}
-use Rattle.number.specs.Number.{c0}
-use Rattle.grid.specs.Grid.{Holds}
-use Rattle.grid.proofs.Fields.{holds_at}
-use Rattle.settings.specs.Refusals as Call
-use Rattle.settings.proofs.Laws.{known}
-use Rattle.settings.proofs.Outcome.{answered, refused}
+-- `readings::velocity` meets its contract: a refused reading has its number.
+use Rattle.readings.proofs.Answered.{velocity_not_read}
 use Rattle.readings.proofs.velocity.Goals as goal
 
-pub returns-then-number-ne0 : goal.returns-then-number-ne0
-returns-then-number-ne0 c =
-    refused _ (λ n. record { number = n; ux = c0; uy = c0 }) c.velocity_refusal-number.ensures c.if-number-ne0.true
-
-pub returns : goal.returns
-returns c =
-    answered _ c.velocity_refusal-number.ensures c.if-number-ne0.false
-    (λ i. let m = c.read_velocity-m.ensures i in record { number = 0; ux = m.ux; uy = m.uy })
-
-pub overflow_mul-s : goal.overflow_mul-s
-overflow_mul-s c = let here : let a = c.args in Holds a.f.now (a.s.nx * a.s.ny) (a.x + a.y * a.s.nx) = let a = c.args in
-    let k = known (Call.velocity a.s _ a.x a.y) (sym c.velocity_refusal-number.ensures ∙ c.if-number-ne0.false) in
-    holds_at _ _ _ _ _ k.0 k.1.0.size k.1.1.1.1.0.column k.1.1.1.1.0.row in
-    omega (arith, here)
-
-pub overflow_mul-y : goal.overflow_mul-y
-overflow_mul-y c = let here : let a = c.args in Holds a.f.now (a.s.nx * a.s.ny) (a.x + a.y * a.s.nx) = let a = c.args in
-    let k = known (Call.velocity a.s _ a.x a.y) (sym c.velocity_refusal-number.ensures ∙ c.if-number-ne0.false) in
-    holds_at _ _ _ _ _ k.0 k.1.0.size k.1.1.1.1.0.column k.1.1.1.1.0.row in
-    omega (arith, here)
-
-pub overflow_add-x : goal.overflow_add-x
-overflow_add-x c = let here : let a = c.args in Holds a.f.now (a.s.nx * a.s.ny) (a.x + a.y * a.s.nx) = let a = c.args in
-    let k = known (Call.velocity a.s _ a.x a.y) (sym c.velocity_refusal-number.ensures ∙ c.if-number-ne0.false) in
-    holds_at _ _ _ _ _ k.0 k.1.0.size k.1.1.1.1.0.column k.1.1.1.1.0.row in
-    omega (arith, here)
-
-pub read_velocity-m-requires : goal.read_velocity-m-requires
-read_velocity-m-requires c = let here : let a = c.args in Holds a.f.now (a.s.nx * a.s.ny) (a.x + a.y * a.s.nx) = let a = c.args in
-    let k = known (Call.velocity a.s _ a.x a.y) (sym c.velocity_refusal-number.ensures ∙ c.if-number-ne0.false) in
-    holds_at _ _ _ _ _ k.0 k.1.0.size k.1.1.1.1.0.column k.1.1.1.1.0.row in
-    here
+pub returns-in_err-check_velocity : goal.returns-in_err-check_velocity
+returns-in_err-check_velocity c = velocity_not_read _ _ _ _ c.from_residual.ensures.1 c.in_err-check_velocity.ensures

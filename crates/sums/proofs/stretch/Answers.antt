@@ -1,22 +1,12 @@
--- `sums::stretch` meets its contract: the loop's invariant: the sum of the first k entries, wrapped.
-use Rattle.std.proofs.Common.{◌≡◌, ℕ, ◌+◌, get_or, refl, ap, ◌∙◌, arith}
-use Rattle.sums.specs.Sums.{wrapped, sum}
-use Rattle.sums.proofs.Sums.{wrap_more}
+-- `sums::stretch` meets its contract: the fold over the stretch is its sum, wrapped once.
+use Rattle.std.proofs.Common.{◌≡◌, ◌+◌, ◌∙◌, rules}
+use Rattle.std.specs.List.{fold, slice_range}
+use Rattle.sums.specs.Sums.{wrapped}
+use Rattle.sums.proofs.Sums.{stretch_folded}
 use Rattle.sums.proofs.stretch.Goals as goal
-
-pub loop-k-init : goal.loop-k-init
-unfolding sum
-loop-k-init c = (omega arith, refl)
-
-pub loop-k-preserved : goal.loop-k-preserved
-loop-k-preserved c =
-    let a = c.args in
-    let l = c.loop-k in
-    (omega arith, wrap_more (λ j. get_or a.f.now (j + a.from) 0) l.k l.s _ l.invariant.1 c.plus-s.ensures)
 
 pub returns : goal.returns
 returns c =
     let a = c.args in
-    let l = c.loop-k in
-    let p : l.k ≡ a.n = omega arith in
-    l.invariant.1 ∙ ap (λ (k : ℕ). wrapped (sum k (λ j. get_or a.f.now (j + a.from) 0))) p
+    let e : c.fold.result ≡ fold (λ s x. wrapped (s + x)) 0 (slice_range a.f.now a.from (a.from + a.n)) = search rules in
+    e ∙ stretch_folded a.f.now a.from a.n c.requires

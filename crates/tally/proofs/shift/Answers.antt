@@ -1,7 +1,6 @@
--- `tally::shift` meets its contract: two stores, each of what `moved_by` answers.
-use Rattle.tally.specs.Tally.{moved}
+-- `tally::shift` meets its contract: the second store finds its number as it was before the first.
+use Rattle.tally.proofs.Planes.{shifted}
 use Rattle.tally.proofs.shift.Goals as goal
 
 pub returns : goal.returns
-unfolding moved
-returns c = rw (c.moved_by-plane.ensures, c.moved_by-first.ensures)
+returns c = shifted _ _ _ _ _ _ c.moved_by.ensures c.moved_by-2.ensures

@@ -1,61 +1,26 @@
 -- `tally::write_entry` meets its contract: a refusal leaves populations and tally, and else one entry and two numbers are changed.
-use mathlib.Core.Path.{sym, ap, ap₂, ◌∙◌}
-use mathlib.Core.List.{List}
-use Prim.Native.Nat.{ℕ}
-use native.Mathlib.Omega.{arith}
-use lib.ListN.{length, get_or, set}
-use Rattle.grid.specs.Grid.{index}
-use Rattle.settings.proofs.Outcome.{answered, refused}
-use Rattle.tally.specs.Tally.{moved, entered}
-use Rattle.tally.proofs.Planes.{Stands, stands}
+use Rattle.std.proofs.Common.{arith}
+use Rattle.settings.proofs.Outcome.{refused_by}
+use Rattle.tally.specs.Tally.{entered}
+use Rattle.tally.proofs.Outcomes.{allowed, entry_done}
 use Rattle.tally.proofs.write_entry.Goals as goal
 
-pub returns-then-number-ne0 : goal.returns-then-number-ne0
-returns-then-number-ne0 c =
+pub returns-in_err-check_write_entry : goal.returns-in_err-check_write_entry
+returns-in_err-check_write_entry c =
     let a = c.args in
-    let at = index a.s.nx a.s.ny a.x a.y a.i in
-    refused (entered 0 (set a.f.now at a.v) (moved a.i (get_or a.f.now at 0) a.v a.t.now))
-    (λ number. entered number a.f.now a.t.now)
-    c.write_entry_refusal-number.ensures c.if-number-ne0.true
+    refused_by _ (λ n. entered n a.f.now a.t.now) _ _ c.from_residual.ensures.1 c.in_err-check_write_entry.ensures
+
+pub place-requires : goal.place-requires
+place-requires c =
+    let k = allowed c.args.s _ _ _ _ c.in_ok-check_write_entry.ensures in (k.grid, k.column, k.row, k.direction)
+
+pub offset_bounds-f-place : goal.offset_bounds-f-place
+offset_bounds-f-place c = let k = allowed c.args.s _ _ _ _ c.in_ok-check_write_entry.ensures in omega (arith, k.grid.few)
+
+pub bounds-f-place : goal.bounds-f-place
+bounds-f-place c = let k = allowed c.args.s _ _ _ _ c.in_ok-check_write_entry.ensures in omega (arith, k.size)
 
 pub returns : goal.returns
 returns c =
-    let a = c.args in
-    answered _ c.write_entry_refusal-number.ensures c.if-number-ne0.false
-    (ap₂ (λ (f t : List ℕ). entered 0 f t) c.swap_in-old.ensures.put
-    (c.shift.ensures ∙ ap (λ (old : ℕ). moved a.i old a.v a.t.now) c.swap_in-old.ensures.old))
-
-pub overflow_mul-y : goal.overflow_mul-y
-overflow_mul-y c = let sure : let a = c.args in Stands a.s.nx a.s.ny (length a.f.now) a.x a.y a.i = let a = c.args in
-    stands a.s (length a.f.now) a.x a.y a.i (sym c.write_entry_refusal-number.ensures ∙ c.if-number-ne0.false) in
-    let s = sure in omega arith
-
-pub overflow_add-x : goal.overflow_add-x
-overflow_add-x c = let sure : let a = c.args in Stands a.s.nx a.s.ny (length a.f.now) a.x a.y a.i = let a = c.args in
-    stands a.s (length a.f.now) a.x a.y a.i (sym c.write_entry_refusal-number.ensures ∙ c.if-number-ne0.false) in
-    let s = sure in omega arith
-
-pub overflow_mul-s : goal.overflow_mul-s
-overflow_mul-s c = let sure : let a = c.args in Stands a.s.nx a.s.ny (length a.f.now) a.x a.y a.i = let a = c.args in
-    stands a.s (length a.f.now) a.x a.y a.i (sym c.write_entry_refusal-number.ensures ∙ c.if-number-ne0.false) in
-    let s = sure in omega arith
-
-pub overflow_mul-i : goal.overflow_mul-i
-overflow_mul-i c = let sure : let a = c.args in Stands a.s.nx a.s.ny (length a.f.now) a.x a.y a.i = let a = c.args in
-    stands a.s (length a.f.now) a.x a.y a.i (sym c.write_entry_refusal-number.ensures ∙ c.if-number-ne0.false) in
-    let s = sure in omega arith
-
-pub overflow_add-x-2 : goal.overflow_add-x-2
-overflow_add-x-2 c = let sure : let a = c.args in Stands a.s.nx a.s.ny (length a.f.now) a.x a.y a.i = let a = c.args in
-    stands a.s (length a.f.now) a.x a.y a.i (sym c.write_entry_refusal-number.ensures ∙ c.if-number-ne0.false) in
-    let s = sure in omega arith
-
-pub swap_in-old-requires : goal.swap_in-old-requires
-swap_in-old-requires c = let sure : let a = c.args in Stands a.s.nx a.s.ny (length a.f.now) a.x a.y a.i = let a = c.args in
-    stands a.s (length a.f.now) a.x a.y a.i (sym c.write_entry_refusal-number.ensures ∙ c.if-number-ne0.false) in
-    sure.inside
-
-pub shift-requires : goal.shift-requires
-shift-requires c = let sure : let a = c.args in Stands a.s.nx a.s.ny (length a.f.now) a.x a.y a.i = let a = c.args in
-    stands a.s (length a.f.now) a.x a.y a.i (sym c.write_entry_refusal-number.ensures ∙ c.if-number-ne0.false) in
-    sure.direction
+    entry_done c.args.s _ _ _ _ _ _ _ _ _ _ c.in_ok-check_write_entry.ensures c.place.ensures.entry c.replace-old.ensures.value
+    c.replace-old.ensures.after c.shift.ensures

@@ -1,28 +1,19 @@
 -- `words::read_words` meets its contract. The loop's invariant: the first k numbers are read.
-use native.Mathlib.Omega.{arith}
-use Rattle.grid.proofs.Writes.{none}
-use Rattle.words.proofs.Laid.{entry_more, numbers_all}
+use Rattle.std.proofs.Common.{◌≡◌, ◌∙◌, refl, sym, ap, ℕ, length, arith, take_all}
+use Rattle.words.specs.Words.{numbers_at}
+use Rattle.words.proofs.Words.{read_more}
 use Rattle.words.proofs.read_words.Goals as goal
+
+pub loop-k-init : goal.loop-k-init
+unfolding numbers_at
+loop-k-init c = refl
 
 pub loop-k-preserved : goal.loop-k-preserved
 loop-k-preserved c =
-    let l = c.loop-k in
-    (omega (arith, l.invariant.1.size), entry_more _ _ _ _ _ l.invariant.1 (omega (arith, l.invariant.1.size)) c.number_at.ensures)
+    let l = c.loop-k in read_more _ _ l.k _ (omega arith) (omega arith) l.invariant c.number_of.ensures
 
 pub returns : goal.returns
-returns c = let l = c.loop-k in numbers_all _ _ _ _ l.k l.invariant.1 (omega (arith, l.invariant.1.size))
-
-pub loop-k-init : goal.loop-k-init
-loop-k-init c = (omega arith, none _ _ _)
-
-pub overflow_mul-k : goal.overflow_mul-k
-overflow_mul-k c = omega (arith, c.loop-k.invariant.1.size)
-
-pub overflow_add-at : goal.overflow_add-at
-overflow_add-at c = omega (arith, c.loop-k.invariant.1.size)
-
-pub number_at-requires : goal.number_at-requires
-number_at-requires c = (omega arith, omega (arith, c.loop-k.invariant.1.size))
-
-pub loop-k-smaller : goal.loop-k-smaller
-loop-k-smaller c = omega (arith, c.loop-k.invariant.1.size)
+returns c =
+    let l = c.loop-k in
+    let all : l.k ≡ length c.args.f.now = omega arith in
+    sym (take_all l.k l.f (omega arith)) ∙ l.invariant ∙ ap (λ (k : ℕ). numbers_at 8 k c.args.bytes.now 0) all

@@ -1,11 +1,7 @@
-use Prim.Native.Nat.{◌-◌, ◌*◌, ◌≤◌}
-use lib.ListN.{length, get_or}
-use Rattle.grid.specs.Writes.{Wrote}
+use Rattle.std.proofs.Common.{◌≡◌, ◌*◌, take}
 use Rattle.words.specs.Words.{bigs}
 use Rattle.words.proofs.write_words.Given as goal
 
+-- the bytes of the first k numbers are written
 abbrev pub invariant-loop-k : goal.invariant-loop-k
-invariant-loop-k l = (l.k ≤ length l.f) × Wrote l.initial.b l.b l.at (8 * l.k) (λ j. get_or (bigs 8 l.f) j 0)
-
-abbrev pub decreases-loop-k : goal.decreases-loop-k
-decreases-loop-k l = length l.f - l.k
+invariant-loop-k l = take (8 * l.k) l.bytes ≡ bigs 8 (take l.k l.f)

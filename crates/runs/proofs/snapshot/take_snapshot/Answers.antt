@@ -1,33 +1,16 @@
--- `runs::snapshot::take_snapshot` meets its contract. The loop's invariant: the cells below c are taken, and c is at most n.
-use Rattle.runs.proofs.Snapshots.{taking}
+-- `runs::snapshot::take_snapshot` meets its contract. The loop's invariant: the cells below c are taken.
+use Rattle.runs.proofs.Snapshots.{taken_none, taken_more, taken_all, residual_is}
 use Rattle.runs.proofs.snapshot.take_snapshot.Goals as goal
 
-pub overflow_mul-n : goal.overflow_mul-n
-overflow_mul-n c = search taking
-
 pub loop-c-init : goal.loop-c-init
-loop-c-init c = search taking
-
-pub overflow_add-c : goal.overflow_add-c
-overflow_add-c c = search taking
-
-pub loop-c-smaller : goal.loop-c-smaller
-loop-c-smaller c = search taking
+loop-c-init c = taken_none _ _ _
 
 pub loop-c-preserved : goal.loop-c-preserved
-loop-c-preserved c = search taking
-
-pub shape_of-u : goal.shape_of-u
-shape_of-u c = search taking
+loop-c-preserved c =
+    taken_more _ _ _ c.take_cell-max.ensures c.loop-c.invariant c.loop-c-test.true c.read_velocity-m.ensures c.requires.u_size
 
 pub returns : goal.returns
-returns c = search taking
-
-pub read_velocity-m-requires : goal.read_velocity-m-requires
-read_velocity-m-requires c = search taking
-
-pub take_cell-max-requires : goal.take_cell-max-requires
-take_cell-max-requires c = search taking
-
-pub ratio-requires : goal.ratio-requires
-ratio-requires c = search taking
+returns c = record {
+  taken = taken_all _ _ _ c.loop-c.invariant c.loop-c-test.false c.requires.u_size;
+  residual = residual_is _ _ _ c.loop-c.invariant c.loop-c-test.false c.ratio.ensures;
+}

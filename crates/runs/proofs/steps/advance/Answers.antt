@@ -1,15 +1,11 @@
 -- `runs::steps::advance` meets its contract: what it collides into post it carries on into f, and the bits that it wrote tell of f.
-use mathlib.Core.Path.{refl}
 use native.Mathlib.Omega.{arith}
-use Rattle.streaming.proofs.Turned.{contradiction}
 use Rattle.runs.proofs.Stepwise.{one_step_lem, told_after}
 use Rattle.runs.proofs.steps.advance.Goals as goal
 
--- forward, so no face need be undriven
 pub carry-bits-requires : goal.carry-bits-requires
 carry-bits-requires c =
-    let ready = c.requires.0 in
-    (record { grid = ready.grid; read = omega arith; written = omega arith }, λ h. contradiction h refl)
+    let ready = c.requires.0 in record { grid = ready.grid; read = omega arith; written = omega arith }
 
 pub returns : goal.returns
 returns c =

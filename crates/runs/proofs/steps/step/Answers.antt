@@ -1,21 +1,9 @@
--- `runs::steps::step` meets its contract: refused, nothing is written; else the buffers are as `advance_by` leaves them.
-use Rattle.runs.proofs.Stepwise.{may_step, outcome}
+-- `runs::steps::step` meets its contract: a refused call leaves both buffers as they were.
+use Rattle.runs.proofs.Stepwise.{kept_by, ran}
 use Rattle.runs.proofs.steps.step.Goals as goal
 
-pub step_refusal-number-requires : goal.step_refusal-number-requires
-step_refusal-number-requires c = search outcome
-
-pub returns-then-number-ne0 : goal.returns-then-number-ne0
-returns-then-number-ne0 c = search outcome
-
-pub shape_of-f : goal.shape_of-f
-shape_of-f c = search outcome
-
-pub shape_of-post : goal.shape_of-post
-shape_of-post c = search outcome
+pub returns-in_err-check_step : goal.returns-in_err-check_step
+returns-in_err-check_step c = kept_by _ 1 _ _ _ _ c.from_residual.ensures.1 c.in_err-check_step.ensures
 
 pub returns : goal.returns
-returns c = search outcome
-
-pub advance_by-requires : goal.advance_by-requires
-advance_by-requires c = search may_step
+returns c = ran _ 1 _ _ c.in_ok-check_step.ensures c.advance_by.ensures

@@ -1,10 +1,7 @@
-use Prim.Native.Nat.{◌*◌, ◌-◌, ◌≤◌}
+use Prim.Native.Nat.{◌*◌}
 use Rattle.streaming.specs.Rows.{turned_plane}
 use Rattle.streaming.proofs.Rows.{Copied}
 use Rattle.streaming.proofs.travel.plane.Given as goal
 
 abbrev pub invariant-loop-y : goal.invariant-loop-y
-invariant-loop-y l = (l.y ≤ l.t.ny) × Copied l.initial.dst l.dst l.base (l.y * l.t.nx) (turned_plane l.t l.base l.src) l.joined
-
-abbrev pub decreases-loop-y : goal.decreases-loop-y
-decreases-loop-y l = l.t.ny - l.y
+invariant-loop-y l = Copied l.initial.dst l.dst l.base (l.y * l.t.nx) (turned_plane l.t l.base l.src) l.bits

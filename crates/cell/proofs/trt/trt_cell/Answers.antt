@@ -1,8 +1,0 @@
--- `cell::trt::trt_cell` meets its contract: the source is nine zeros, since there is no force.
-use Rattle.cell.specs.Cell.{no_source}
-use Rattle.cell.proofs.Cells.{cell_unforced, both_halves}
-use Rattle.cell.proofs.trt.trt_cell.Goals as goal
-
-pub returns : goal.returns
-unfolding no_source
-returns c = search (cell_unforced, both_halves)

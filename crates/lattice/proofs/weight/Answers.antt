@@ -1,9 +1,0 @@
--- `lattice::weight` meets its contract: the table has the patterns of the definition's quotients.
-use mathlib.Core.Path.{refl}
-use lib.Ieee.{of_bits, div}
-use Rattle.lattice.specs.Lattice.{weights}
-use Rattle.lattice.proofs.weight.Goals as goal
-
-pub returns : goal.returns
-unfolding weights of_bits div
-returns c = refl

@@ -1,5 +1,0 @@
--- `settings::losses` meets its contract: the number goes by its test.
-use Rattle.settings.proofs.losses.Goals as goal
-
-pub returns : goal.returns
-returns c = rw (c.number_if.ensures, c.lossy.ensures)
