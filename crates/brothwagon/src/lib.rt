@@ -59,7 +59,8 @@ fn velocity_words(answer: Result<Velocity, Refusal>) -> Result<[u64; 2], Refusal
 fn plane_words(s: Settings, f: &[u64], direction: usize) -> Result<[u64; 2], Refusal>
     ensures { told 2 result ≡ plane_told s f.now direction }
 {
-    let count = readings::plane(s, f, direction)?.len();
+    readings::plane_refusal(s, f, direction)?;
+    let count = readings::plane(s, f, direction).len();
     Ok([(direction * count) as u64, count as u64])
 }
 

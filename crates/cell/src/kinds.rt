@@ -29,3 +29,14 @@ pub fn cell<K: Collide, const FORCED: bool>(
     let m = collision_moments(f, force, floor);
     rates.collide(f, equilibria(m), sources::<FORCED>(m, force))
 }
+
+// The same where it is not known whether a force acts.
+pub fn collided<K: Collide>(rates: K, f: [f64; 9], force: Force, floor: f64) -> [f64; 9]
+    ensures { result ≡ cell_by (K.rule rates) f force.x force.y floor }
+{
+    if force.acts() {
+        cell::<K, true>(rates, f, force, floor)
+    } else {
+        cell::<K, false>(rates, f, force, floor)
+    }
+}

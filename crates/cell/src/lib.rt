@@ -16,7 +16,7 @@ mod trt;
 pub use bgk::BgkRates;
 pub use equilibrium::equilibria;
 pub use guo::Force;
-pub use kinds::{Collide, cell};
+pub use kinds::{Collide, cell, collided};
 pub use macroscopic::{density, read_moments};
 pub use mrt::MrtRates;
 pub use trt::TrtRates;

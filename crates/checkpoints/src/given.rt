@@ -1,7 +1,6 @@
 // A state of one cell, and its file.
-use cell::Collision;
 use checkpoint::Stored;
-use settings::{Face, Settings};
+use show::sized;
 
 // Each byte of the step number and of seven entries is another one; then a NaN that signals, and all bits set.
 pub const STEP: u32 = 0x0102_0304;
@@ -24,22 +23,6 @@ pub const NOTHING: Stored = Stored {
     ny: 0,
     step: 0,
 };
-
-pub fn sized(nx: usize, ny: usize) -> Settings {
-    Settings {
-        nx,
-        ny,
-        nu: 0.1,
-        fx: 0.0,
-        fy: 0.0,
-        collision: Collision::Bgk,
-        x_min: Face::Periodic,
-        x_max: Face::Periodic,
-        y_min: Face::Periodic,
-        y_max: Face::Periodic,
-        floor: 1e-12,
-    }
-}
 
 // The file of that state, with one byte more behind it.
 pub fn file() -> [u8; 86] {

@@ -1,8 +1,8 @@
 // Every number of every operation on a file, and their order: zeros are answered, and lent buffers stay as they were.
-use crate::given::{F, changed, sized};
+use crate::given::{F, changed};
 use crate::{given, lines};
 use settings::{Settings, number_of};
-use show::{CANARY, full_of, kept};
+use show::{CANARY, full_of, kept, sized};
 use std::io;
 
 // ---- reading: a good file of 85 bytes, and one more behind it, with byte k turned to another, and cut to a length

@@ -1,9 +1,9 @@
 // The tally of the state of one cell, its file, and every number that refuses a file or its writing, in their order.
-use crate::given::{F, sized};
+use crate::given::F;
 use crate::lines;
 use crate::refused::{BYTE, bytes_kept};
 use settings::number_of;
-use show::{CANARY, kept};
+use show::{CANARY, kept, sized};
 use std::io;
 
 fn own() -> [u64; 10] {

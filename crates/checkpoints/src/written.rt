@@ -16,7 +16,7 @@ fn read_back(rt: &impl Print, file: &[u8]) -> io::Result<()> {
 
 fn one_by_one(rt: &impl Print) -> io::Result<()> {
     let mut file = [0; 85];
-    let written = checkpoint::write_checkpoint(given::sized(1, 1), STEP, &F, &mut file);
+    let written = checkpoint::write_checkpoint(show::sized(1, 1), STEP, &F, &mut file);
     show::gives(rt, "write_checkpoint", "1 by 1", number_of(written))?;
     show::newline(rt)?;
     lines::bytes(rt, &file)?;
@@ -26,7 +26,7 @@ fn one_by_one(rt: &impl Print) -> io::Result<()> {
 // Sides that differ, and a count of two bytes.
 fn three_by_two(rt: &impl Print) -> io::Result<()> {
     let mut file = [0; 445];
-    let written = checkpoint::write_checkpoint(given::sized(3, 2), 0, &[CANARY; 54], &mut file);
+    let written = checkpoint::write_checkpoint(show::sized(3, 2), 0, &[CANARY; 54], &mut file);
     show::gives(rt, "write_checkpoint", "3 by 2", number_of(written))?;
     show::newline(rt)?;
     lines::bytes(rt, &file[0..13])?;

@@ -2,9 +2,13 @@
 use mathlib.Core.Path.{◌≡◌, refl, ap, ◌∙◌, subst}
 use mathlib.Core.List.{List}
 use mathlib.Core.Logic.{⊎_elim}
-use Prim.Native.Nat.{ℕ, ◌+◌, ◌-◌, ◌*◌, ◌<◌}
+use Prim.Native.Nat.{ℕ, ◌+◌, ◌-◌, ◌*◌, ◌≤◌, ◌<◌}
 use native.Mathlib.Nat.{ne_of_lt}
 use native.Mathlib.Omega.{arith}
+use Rattle.std.proofs.Common.{rules}
+use borrow.Rule.Slice.PartMut.{put_mid}
+use Rattle.std.proofs.lemmas.Slice.{overwrites}
+use Rattle.std.proofs.lemmas.List.{places}
 use borrow.Author.Count.{below_none, below_more}
 use lib.ListN.{length, get_or, set, length-set}
 use lib.Seq.{get_or-set_same, get_or-set_other}
@@ -28,6 +32,15 @@ one_more d e lo n v a w fits is =
       below = λ j h. get_or-set_other e (lo + n) j a 0 (λ p. omega arith) ∙ w.below j h;
       above = λ j h. get_or-set_other e (lo + n) j a 0 (λ p. omega arith) ∙ w.above j (omega arith);
     }
+
+-- a whole part of d, by the code `&mut d[lo..lo + n]`
+pub part_wrote : (d l : List ℕ) (lo n : ℕ) → lo + n ≤ length d → length l ≡ n → Wrote d (put_mid lo n d l) lo n (λ k. get_or l k 0)
+part_wrote d l lo n h size = record {
+  size = search (rules, overwrites);
+  inside = λ k b. search (rules, places);
+  below = λ j b. search (rules, places);
+  above = λ j b. search (rules, places);
+}
 
 -- two stretches that meet
 pub join : (d e g : List ℕ) (lo n m : ℕ) (v : ℕ → ℕ) → Wrote d e lo n v → Wrote e g (lo + n) m (λ k. v (n + k)) → Wrote d g lo (n + m) v

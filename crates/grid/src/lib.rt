@@ -4,9 +4,8 @@
 ghost use Rattle.std.specs.Prelude.{◌≡◌, ℕ, ◌+◌, ◌*◌, ◌≤◌, ◌<◌, length, get_or, set, Float};
 ghost use Rattle.number.specs.Number.{value_of, pattern_of};
 ghost use Rattle.number.specs.Nine.{at};
-ghost use Rattle.number.specs.Joined.{joined_to};
 ghost use Rattle.grid.specs.Grid.{most_cells, cell_of, Holds};
-ghost use Rattle.grid.specs.Writes.{Wrote, Put};
+ghost use Rattle.grid.specs.Writes.{Put};
 ghost use Rattle.grid.specs.Finite.{AllFinite, joined_buffer};
 
 // The largest side and the most cells of a grid: `most_side` and `most_cells`.
@@ -94,17 +93,15 @@ pub fn joined(b: &[u64]) -> u64
         .fold(0, |bits, entry| bits | number::raised(*entry))
 }
 
-// Copies the n entries of src from `from` on to dst from `to` on, every bit of them, and answers their raised patterns joined.
-pub fn copy(src: &[u64], from: usize, dst: &mut [u64], to: usize, n: usize) -> u64
-    requires { (from + n ≤ length src.now) × (to + n ≤ length dst.old) }
-    ensures wrote { Wrote dst.old dst.new to n
-        (λ k. get_or src.now (from + k) 0) }
-    ensures joined { result ≡ joined_to (λ k. get_or src.now (from + k) 0) n }
+// Copies src to dst, every bit of it, and answers the raised patterns of its entries joined.
+pub fn copy(src: &[u64], dst: &mut [u64]) -> u64
+    requires { length src.now ≡ length dst.old }
+    ensures copied { dst.new ≡ src.now }
+    ensures joined { result ≡ joined_buffer src.now }
 {
     let mut bits = 0;
-    for k in 0..n {
-        let entry = src[from + k];
-        dst[to + k] = entry;
+    for (k, &entry) in src.iter().enumerate() {
+        dst[k] = entry;
         bits |= number::raised(entry);
     }
     bits

@@ -62,20 +62,18 @@ fn all_numbered(a: &[u64]) -> bool {
 }
 
 // Marks the index of the post-collision entry that each entry of f is a copy of.
-fn mark(f: &[u64], seen: &mut [u64]) {
-    seen.fill(0);
+fn mark(f: &[u64], seen: &mut [bool]) {
+    seen.fill(false);
     for v in f {
         if let Some(mark) = seen.get_mut((*v % 4096) as usize) {
-            *mark = 1;
+            *mark = true;
         }
     }
 }
 
 // The lowest index that is not marked, or the length.
-fn lowest_unseen(seen: &[u64]) -> usize {
-    seen.iter()
-        .position(|mark| *mark == 0)
-        .unwrap_or(seen.len())
+fn lowest_unseen(seen: &[bool]) -> usize {
+    seen.iter().position(|mark| !*mark).unwrap_or(seen.len())
 }
 
 // Whether the index is that of (x, y, i).
@@ -101,7 +99,7 @@ fn right(s: Settings, low: usize, f: &[u64], post: &mut [u64]) -> bool {
 }
 
 // Whether the case is right.
-fn one(s: Settings, post: &mut [u64], f: &mut [u64], seen: &mut [u64]) -> bool {
+fn one(s: Settings, post: &mut [u64], f: &mut [u64], seen: &mut [bool]) -> bool {
     number_all(post);
     let streamed = streaming::stream_with_faces(s, post, f).is_ok();
     mark(f, seen);
@@ -110,7 +108,7 @@ fn one(s: Settings, post: &mut [u64], f: &mut [u64], seen: &mut [u64]) -> bool {
 }
 
 // How many of the 81 settings are wrong on a grid.
-fn wrong_on(nx: usize, ny: usize, post: &mut [u64], f: &mut [u64], seen: &mut [u64]) -> u64 {
+fn wrong_on(nx: usize, ny: usize, post: &mut [u64], f: &mut [u64], seen: &mut [bool]) -> u64 {
     let mut wrong: u64 = 0;
     for q in 0..81 {
         if !one(settings_of(nx, ny, q), post, f, seen) {
@@ -126,7 +124,7 @@ fn of_width(
     nx: usize,
     post: &mut [u64; MOST],
     f: &mut [u64; MOST],
-    seen: &mut [u64; MOST],
+    seen: &mut [bool; MOST],
 ) -> io::Result<()>
     requires { nx ≤ 5 }
 {
@@ -141,7 +139,7 @@ fn of_width(
 fn main(rt: HostRuntime) -> io::Result<()> {
     let mut post = [0; MOST];
     let mut f = [0; MOST];
-    let mut seen = [0; MOST];
+    let mut seen = [false; MOST];
     for nx in 1..=SIDE {
         of_width(&rt, nx, &mut post, &mut f, &mut seen)?;
     }

@@ -4,6 +4,12 @@ use mathlib.Core.Bool.{Bool, true, false, not, ◌&&◌}
 use Prim.Native.Nat.{◌*◌}
 use lib.Ieee.{Float, nan, inf, fin, binary64, of_bits, is_nan, ne, eq, div, up, down}
 
+pub is_nan_lem : (x : Float) → is_nan x ≡ true → x ≡ nan
+unfolding is_nan
+is_nan_lem nan e = refl
+is_nan_lem (inf s) e = cc
+is_nan_lem (fin s m k) e = cc
+
 pub differs_is_nan : (x : Float) → ne x x ≡ is_nan x
 unfolding ne eq is_nan
 differs_is_nan nan = refl

@@ -1,19 +1,37 @@
 -- What is known of a call that is not refused, and the operation's outcome in both cases.
 use Rattle.std.proofs.Common.{◌≡◌, refl, sym, ◌∙◌, ◌*◌, length}
 use native.Mathlib.Decide.{ℕ_discrete}
-use Rattle.std.specs.Prelude.{false, List, [], ◌∷◌, ℕ, Result}
+use Rattle.std.specs.Prelude.{Bool, true, false, cond, eqb, List, [], ◌∷◌, ℕ, Result}
 use Rattle.std.specs.Result.{IsErrAnd}
 use Rattle.grid.specs.Grid.{Grid}
 use Rattle.settings.specs.declared.Obstacle.{Obstacle}
 use Rattle.settings.specs.declared.Settings.{Settings}
 use Rattle.settings.specs.declared.refused.Refusal.{Refusal}
 use Rattle.settings.specs.Refused.{number, number_of}
-use Rattle.settings.specs.Tests.{outside, falls}
-use Rattle.settings.specs.Refusals.{first, sides, lengths, refusal, total_mass, set_no_slip_bc}
+use Rattle.settings.specs.Tests.{sides_bad, length_bad, outside, falls}
+use Rattle.settings.specs.Refusals.{first, sides, lengths, places, ascent, refusal, total_mass, set_no_slip_bc}
 use Rattle.settings.specs.Outcome.{outcome}
 use Rattle.settings.proofs.Laws.{known}
 use Rattle.settings.proofs.Outcome.{answered, refused, refused_by}
 use Rattle.obstacles.specs.Obstacles.{bounced_buffer, no_slip_set}
+
+-- what the tests find, the sides and the length first, then every place, then the order, is the number that refuses the call
+pub tested_number : (s : Settings) (list : List Obstacle) (len : ℕ) →
+    let m : ℕ = first (sides s ∷ lengths s 9 len ∷ []) 0 in
+    let p : ℕ = first (places s list ∷ []) 0 in
+    let q : ℕ = first (ascent s list ∷ []) 0 in
+    cond (eqb m 0) (cond (eqb p 0) q p) m ≡ refusal (set_no_slip_bc s list len)
+tested_number s list len = go (sides_bad s.nx s.ny) (length_bad s.nx s.ny 9 len) (outside s.nx s.ny list) (falls s.nx list)
+  where
+    go : (a b c d : Bool) →
+        let m : ℕ = cond a 1 (cond b 2 0) in
+        let p : ℕ = cond c 6 0 in
+        let q : ℕ = cond d 16 0 in
+        cond (eqb m 0) (cond (eqb p 0) q p) m ≡ cond a 1 (cond b 2 (cond c 6 (cond d 16 0)))
+    go true b c d = refl
+    go false true c d = refl
+    go false false true d = refl
+    go false false false d = refl
 
 pub tested : (s : Settings) (len : ℕ) → 0 ≡ first (sides s ∷ lengths s 9 len ∷ []) 0 → Grid s.nx s.ny
 tested s len e = (known (total_mass s len) (sym e)).0

@@ -13,9 +13,9 @@ use borrow.Author.Tests.{eqb-true, ltb-false}
 use Rattle.lattice.specs.Lattice.{OPP}
 use Rattle.lattice.proofs.Tables.{opposite_small}
 use Rattle.grid.specs.Grid.{Field, field_of, buffer_of}
-use Rattle.grid.proofs.Fields.{field_of_buffer, buffer_of_field, same_buffer}
+use Rattle.grid.proofs.Fields.{buffer_length, field_of_buffer, buffer_of_field, same_buffer}
 use Rattle.settings.specs.declared.Obstacle.{Obstacle}
-use Rattle.settings.specs.Tests.{outside, place_of, falls}
+use Rattle.settings.specs.Tests.{outside, place_bad, place_of, falls}
 use Rattle.settings.proofs.Laws.{or_left, or_right}
 use Rattle.obstacles.specs.Obstacles.{is_named, bounced, bounced_buffer}
 use Rattle.obstacles.proofs.Ascent.{nowhere, falls_from, ascends_from}
@@ -111,6 +111,24 @@ module _ (nx ny : ℕ) where
         drop-cons list k nowhere h,
       )
 
-  pub turned_all : (list : List Obstacle) (b : List ℕ) (k : ℕ) → length b ≡ 9 * (nx * ny) → length list ≤ k
+  pub turned_done : (list : List Obstacle) (b : List ℕ) (k : ℕ) → length b ≡ 9 * (nx * ny) → length list ≤ k
       → b ≡ bounced_buffer nx ny (drop k list) b
-  turned_all list b k size h = rw (drop_of_length-le list h) (sym (none_turned b size))
+  turned_done list b k size h = rw (drop_of_length-le list h) (sym (none_turned b size))
+
+  -- ---- the same of the whole list: its cells are turned one after the other, from any buffer and any place that may come next
+
+  abbrev pub one_by_one : List ℕ → List Obstacle → List ℕ
+  one_by_one b [] = b
+  one_by_one b (o ∷ rest) = one_by_one (bounced_buffer nx ny (o ∷ []) b) rest
+
+  pub turned_all : (m : ℕ) (list : List Obstacle) (b : List ℕ) → length b ≡ 9 * (nx * ny) → outside nx ny list ≡ false
+      → falls_from nx m list ≡ false
+      → one_by_one b list ≡ bounced_buffer nx ny list b
+  unfolding outside bounced_buffer
+  turned_all m [] b size ins up = sym (none_turned b size)
+  turned_all m (o ∷ rest) b size ins up =
+      let bad = place_bad nx ny o.x o.y in
+      let above = or_right (ltb (place_of nx o) m) (falls_from nx (place_of nx o + 1) rest) up in
+      turned_all (place_of nx o + 1) rest (bounced_buffer nx ny (o ∷ []) b) (buffer_length nx ny (bounced (o ∷ []) (field_of nx ny b)))
+      (or_right bad (outside nx ny rest) ins) above
+      ∙ one_more o rest b above

@@ -69,7 +69,7 @@ fn swap(f: &mut [u64], n: usize, c: usize)
 }
 
 // Each cell once, since the list ascends.
-#[tactic(auto, using(crate::proofs::Writing::turned_more, crate::proofs::Writing::turned_all, crate::proofs::Lists::on))]
+#[tactic(auto, using(crate::proofs::Writing::turned_more, crate::proofs::Writing::turned_done, crate::proofs::Lists::on))]
 fn bounce(s: Settings, list: &[Obstacle], f: &mut [u64])
     requires grid { Grid s.nx s.ny }
     requires f_len { length f.old ≡ 9 * (s.nx * s.ny) }

@@ -97,3 +97,11 @@ part_read r f s i e part =
     let start : i * (s.nx * s.ny) ≡ plane_start s f.now i = answered 0 e refl refl in
     let count : s.nx * s.ny ≡ plane_length s f.now i = answered 0 e refl refl in
     rw (← start, ← count) part
+
+pub part_refused : (r f : Bor (List ℕ)) (s : Settings) (i : ℕ) (why : Refusal) → number why ≡ refusal (Call.plane s (length f.now) i)
+    → PartOf r f 0 0 → PartOf r f (plane_start s f.now i) (plane_length s f.now i)
+part_refused r f s i why e part =
+    let some = some_number why in
+    let start : 0 ≡ plane_start s f.now i = refused _ (λ n. 0) e (λ zero. absurd (omega arith)) in
+    let count : 0 ≡ plane_length s f.now i = refused _ (λ n. 0) e (λ zero. absurd (omega arith)) in
+    rw (← start, ← count) part

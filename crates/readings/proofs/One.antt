@@ -1,10 +1,7 @@
 -- Any two outcomes that a contract, as the checker reads it (`Post`), allows on the same input coincide: what is returned and the buffer that is written.
 use mathlib.Core.Path.{◌≡◌, sym, ap, ◌∙◌}
-use mathlib.Core.List.{List}
-use Prim.Native.Nat.{ℕ}
 use native.Mathlib.Omega.{arith}
 use contract.Lifetimes.{Lfts}
-use denote.Ref.{Bor}
 use denote.Triple.Clauses.{AtExit}
 use borrow.Fn.World.{ArgsD, ResD}
 use Rattle.std.specs.Prelude.{Float, Result, Ok, Err}
@@ -12,7 +9,6 @@ use Rattle.settings.proofs.Outcome.{both}
 use Rattle.settings.proofs.Numbers.{some_number}
 use Rattle.settings.proofs.Same.{same_refusal, same_answer}
 use Rattle.settings.specs.declared.refused.Refusal.{Refusal}
-use Rattle.settings.specs.Refused.{number_of}
 use Rattle.readings.specs.declared.answers.Velocity.{Velocity}
 use Rattle.readings.specs.Readings.{Reading, reading_of, VelocityReading, velocity_reading_of}
 use Rattle.readings.specs.contracts.initialize
@@ -27,6 +23,8 @@ use Rattle.readings.specs.contracts.total_mass
 use Rattle.readings.proofs.total_mass.Reads as total-mass-reads
 use Rattle.readings.specs.contracts.kinetic_energy
 use Rattle.readings.proofs.kinetic_energy.Reads as kinetic-energy-reads
+use Rattle.readings.specs.contracts.plane_refusal
+use Rattle.readings.proofs.plane_refusal.Reads as plane-refusal-reads
 use Rattle.readings.specs.contracts.plane
 use Rattle.readings.proofs.plane.Reads as plane-reads
 
@@ -72,24 +70,16 @@ pub velocity_field_one : (κs : Lfts 2) (a : ArgsD velocity_field.signature κs)
     → velocity-field-reads.Post κs a r s → velocity-field-reads.Post κs a q t → (r ≡ q) × (s.1.1.0.now ≡ t.1.1.0.now)
 velocity_field_one κs a r q s t p p' = let e = both (p ∙ sym p') in (same_answer r q e.0, e.1)
 
--- ---- a part is returned: the same place, and the same entries; or it is refused by the same
+-- ---- a plane: why it is refused, and the part
 
-abbrev pub Same : Result (Bor (List ℕ)) Refusal → Result (Bor (List ℕ)) Refusal → Type 0
-Same (Ok r) (Ok q) = (r.ref_ptr ≡ q.ref_ptr) × (r.now ≡ q.now)
-Same (Ok r) (Err why) = ⊥
-Same (Err why) (Ok q) = ⊥
-Same (Err why) (Err other) = why ≡ other
+pub plane_refusal_one : (κs : Lfts 1) (a : ArgsD plane_refusal.signature κs) (r q : Result Unit Refusal) (s t : AtExit plane_refusal.ended κs)
+    → plane-refusal-reads.Post κs a r s → plane-refusal-reads.Post κs a q t → r ≡ q
+plane_refusal_one κs a r q s t p p' = same_answer r q (p ∙ sym p')
 
-pub plane_refusal_one : (κs : Lfts 1) (a : ArgsD plane.signature κs) (r q : ResD plane.signature κs) (s t : AtExit plane.ended κs)
-    → plane-reads.Post κs a r s → plane-reads.Post κs a q t → number_of r ≡ number_of q
-plane_refusal_one κs a r q s t p p' = p.0 ∙ sym p'.0
-
+-- the part: where it lies, and what it holds
 pub plane_one : (κs : Lfts 1) (a : ArgsD plane.signature κs) (r q : ResD plane.signature κs) (s t : AtExit plane.ended κs)
-    → plane-reads.Post κs a r s → plane-reads.Post κs a q t → Same r q
-plane_one κs a (Ok r) (Ok q) s t p p' =
-    let block = p.1.block ∙ sym p'.1.block in
-    let place = p.1.place ∙ sym p'.1.place in
-    ((λ i. (block i, place i)), p.1.holds ∙ sym p'.1.holds)
-plane_one κs a (Ok r) (Err why) s t p p' = let some = some_number why in omega (arith, p.0 ∙ sym p'.0)
-plane_one κs a (Err why) (Ok q) s t p p' = let some = some_number why in omega (arith, p.0 ∙ sym p'.0)
-plane_one κs a (Err why) (Err other) s t p p' = same_refusal why other (p.0 ∙ sym p'.0)
+    → plane-reads.Post κs a r s → plane-reads.Post κs a q t → (r.ref_ptr ≡ q.ref_ptr) × (r.now ≡ q.now)
+plane_one κs a r q s t p p' =
+    let block = p.block ∙ sym p'.block in
+    let place = p.place ∙ sym p'.place in
+    ((λ i. (block i, place i)), p.holds ∙ sym p'.holds)

@@ -1,7 +1,7 @@
 // What is read of a grid's populations, and their initialisation from a table. Cell c = x + y·nx is the one at (x, y).
 #![tactic(auto)]
 
-ghost use Rattle.std.specs.Prelude.{◌≡◌, ◌+◌, ◌*◌, ◌≤◌, length, IfOk};
+ghost use Rattle.std.specs.Prelude.{◌≡◌, ◌+◌, ◌*◌, ◌≤◌, length};
 ghost use Rattle.grid.specs.Grid.{Grid, Holds, buffer_of};
 ghost use Rattle.settings.specs.Refusals as Call;
 ghost use Rattle.settings.specs.Refusals.{refusal};
@@ -9,7 +9,7 @@ ghost use Rattle.settings.specs.Outcome.{outcome};
 ghost use Rattle.settings.specs.Refused.{number_of};
 ghost use Rattle.readings.specs.Readings.{initial_moments, initial_field, initialized, reading_of, density_at, velocity_at, density_read, velocity_reading_of, velocity_read, velocity_buffer, velocity_field_read, mass_of, total_mass_read, energy_of, kinetic_energy_read, PartOf, plane_start, plane_length};
 
-use cell::{Force, Moments};
+use cell::Moments;
 use settings::{Refusal, Settings};
 
 mod answers;
@@ -70,8 +70,7 @@ pub fn read_velocity(s: Settings, f: &[u64], c: usize) -> Moments
     requires { Holds f.now (s.nx * s.ny) c }
     ensures { result ≡ velocity_at s f.now c }
 {
-    let force = Force { x: s.fx, y: s.fy };
-    cell::read_moments(grid::gather(f, s.nx * s.ny, c), force, s.floor)
+    cell::read_moments(grid::gather(f, s.nx * s.ny, c), s.force(), s.floor)
 }
 
 #[tactic(auto, using(crate::proofs::Answered::read, crate::proofs::Answered::density_holds))]
@@ -164,15 +163,25 @@ pub fn kinetic_energy(s: Settings, f: &[u64]) -> Result<f64, Refusal>
 
 // ---- a direction's plane
 
-// All entries of direction i, as a part of f.
-#[tactic(auto, using(crate::proofs::Answered::plane_inside))]
-pub fn plane(s: Settings, f: &[u64], i: usize) -> Result<&[u64], Refusal>
-    ensures number { number_of result ≡ refusal (Call.plane s (length f.now) i) }
-    ensures part { IfOk result (λ r. PartOf r f.entry (plane_start s f.now i) (plane_length s f.now i)) }
+// Why a plane is refused: `plane` itself can only answer with an empty part.
+pub fn plane_refusal(s: Settings, f: &[u64], i: usize) -> Result<(), Refusal>
+    ensures { number_of result ≡ refusal (Call.plane s (length f.now) i) }
 {
-    settings::check_plane(s, f.len(), i)?;
-    let n = s.nx * s.ny;
-    let start = i * n;
-    let end = start + n;
-    Ok(&f[start..end])
+    settings::check_plane(s, f.len(), i)
+}
+
+// All entries of direction i, as a part of f; an empty part where it is refused.
+#[tactic(auto, using(crate::proofs::Answered::plane_inside))]
+pub fn plane(s: Settings, f: &[u64], i: usize) -> &[u64]
+    ensures { PartOf result f.entry (plane_start s f.now i) (plane_length s f.now i) }
+{
+    match plane_refusal(s, f, i) {
+        Ok(()) => {
+            let n = s.nx * s.ny;
+            let start = i * n;
+            let end = start + n;
+            &f[start..end]
+        }
+        Err(_) => &f[0..0],
+    }
 }

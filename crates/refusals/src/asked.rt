@@ -1,7 +1,8 @@
 // The questions beside the operations, which take lengths and no buffers: bounds from both sides, and the order of the numbers.
-use crate::given::{colliding, faced, floored, forced, sized, viscous, x_max, x_min, y_max, y_min};
+use crate::given::{colliding, faced, floored, forced, viscous, x_max, x_min, y_max, y_min};
 use cell::Collision;
 use settings::{Face, Settings, number_of};
+use show::sized;
 use std::io;
 
 // ---- questions on 3 by 2, each buffer of the right length

@@ -74,8 +74,9 @@ pub fn kinetic_energy(rt: &impl Print, case: &str, s: Settings, f: &[u64]) -> io
 }
 
 pub fn plane(rt: &impl Print, case: &str, s: Settings, f: &[u64], i: usize) -> io::Result<()> {
+    let number = number_of(readings::plane_refusal(s, f, i));
     let part = readings::plane(s, f, i);
-    show::refused(rt, "plane", case, number_of(part), part.is_err(), ", empty")
+    show::refused(rt, "plane", case, number, part.is_empty(), ", empty")
 }
 
 pub fn stream_with_faces(

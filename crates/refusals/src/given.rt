@@ -1,22 +1,7 @@
 // Settings that differ from harmless ones in what a case is about.
 use cell::Collision;
 use settings::{Face, Settings};
-
-pub fn sized(nx: usize, ny: usize) -> Settings {
-    Settings {
-        nx,
-        ny,
-        nu: 0.1,
-        fx: 0.0,
-        fy: 0.0,
-        collision: Collision::Bgk,
-        x_min: Face::Periodic,
-        x_max: Face::Periodic,
-        y_min: Face::Periodic,
-        y_max: Face::Periodic,
-        floor: 1e-12,
-    }
-}
+use show::sized;
 
 // On 3 by 2, as all that follow.
 pub fn viscous(nu: f64) -> Settings {

@@ -1,7 +1,6 @@
 // Number 2 on 3 by 2: each lent buffer in turn one entry short or long. Right are 54, a table of 18 and velocities of 12.
 use crate::calls;
-use crate::given::sized;
-use show::CANARY;
+use show::{CANARY, sized};
 use std::io;
 
 const F: [u64; 54] = [CANARY; 54];

@@ -1,9 +1,9 @@
 // Each number that each operation gives but 2 and 9, and the order where several apply. Buffers of the right length for 3 by 2.
 use crate::calls;
-use crate::given::{colliding, faced, floored, forced, sized, viscous, x_max, x_min, y_max, y_min};
+use crate::given::{colliding, faced, floored, forced, viscous, x_max, x_min, y_max, y_min};
 use cell::Collision;
 use settings::{Face, Settings};
-use show::CANARY;
+use show::{CANARY, sized};
 use std::io;
 
 const F: [u64; 54] = [CANARY; 54];

@@ -1,9 +1,8 @@
 // Number 9: what a steady run leaves where a snapshot is bad.
 use crate::calls::steady_number;
-use crate::given::sized;
 use runs::Steady;
 use settings::Refusal;
-use show::{CANARY, kept};
+use show::{CANARY, kept, sized};
 use std::io;
 
 const MINUS_INFINITY: u64 = 0xfff0_0000_0000_0000;

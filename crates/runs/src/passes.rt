@@ -41,7 +41,7 @@ fn collide_by<K: Collide>(rates: K, s: Settings, finite: bool, f: &[u64], post: 
     ensures { post.new ≡ passed (K.rule rates) s.fx s.fy s.floor (s.nx * s.ny) f.now }
 {
     let n = s.nx * s.ny;
-    let force = Force { x: s.fx, y: s.fy };
+    let force = s.force();
     match (force.acts(), finite) {
         (true, true) => pass::<K, true, true>(rates, force, s.floor, n, f, post),
         (true, false) => pass::<K, true, false>(rates, force, s.floor, n, f, post),

@@ -66,8 +66,7 @@ pub fn faces(s: Settings) -> Result<(), Refusal>
 pub fn tolerance(t: f64) -> Result<(), Refusal>
     ensures { number_of result ≡ first (Refusals.tolerance t ∷ []) 0 }
 {
-    // only a NaN differs from itself
-    unless(t != t, Refusal::Run)
+    unless(t.is_nan(), Refusal::Run)
 }
 
 pub fn steps(n: u64) -> Result<(), Refusal>

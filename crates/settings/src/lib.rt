@@ -5,7 +5,7 @@ ghost use Rattle.std.specs.Prelude.{◌≡◌};
 ghost use Rattle.settings.specs.Tests as Tests;
 ghost use Rattle.settings.specs.Tests.{tau_of, is_periodic, is_symmetry, drives, face_of};
 
-use cell::Collision;
+use cell::{Collision, Force};
 use lattice::{Axis, Side};
 
 mod checks;
@@ -84,6 +84,15 @@ impl Settings {
         ensures { result ≡ tau_of self.nu }
     {
         3.0 * self.nu + 0.5
+    }
+
+    pub fn force(self) -> Force
+        ensures { (result.x ≡ self.fx) × (result.y ≡ self.fy) }
+    {
+        Force {
+            x: self.fx,
+            y: self.fy,
+        }
     }
 
     pub fn face(self, axis: Axis, side: Side) -> Face

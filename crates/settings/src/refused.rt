@@ -8,21 +8,22 @@ use std::fmt;
 
 #[derive(Clone, Copy, Debug, PartialEq, Eq)]
 pub enum Refusal {
-    Sides,
-    Length,
-    Rate,
-    Force,
-    Face,
-    Place,
-    NotCopying,
-    Lossy,
-    Run,
-    FileShort,
-    FileVersion,
-    FileSides,
-    FileLength,
-    Order,
-    Tally,
+    Sides = 1,
+    Length = 2,
+    Rate = 3,
+    Force = 4,
+    Face = 5,
+    Place = 6,
+    NotCopying = 7,
+    Lossy = 8,
+    // 9 stands with the steady run
+    Run = 10,
+    FileShort = 12,
+    FileVersion = 13,
+    FileSides = 14,
+    FileLength = 15,
+    Order = 16,
+    Tally = 17,
 }
 
 impl Refusal {
@@ -30,24 +31,7 @@ impl Refusal {
     pub fn number(self) -> u32
         ensures { result ≡ number self }
     {
-        match self {
-            Refusal::Sides => 1,
-            Refusal::Length => 2,
-            Refusal::Rate => 3,
-            Refusal::Force => 4,
-            Refusal::Face => 5,
-            Refusal::Place => 6,
-            Refusal::NotCopying => 7,
-            Refusal::Lossy => 8,
-            // 9 stands with the steady run
-            Refusal::Run => 10,
-            Refusal::FileShort => 12,
-            Refusal::FileVersion => 13,
-            Refusal::FileSides => 14,
-            Refusal::FileLength => 15,
-            Refusal::Order => 16,
-            Refusal::Tally => 17,
-        }
+        self as u32
     }
 }
 

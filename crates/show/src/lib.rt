@@ -2,6 +2,8 @@
 // what it leaves is as it must be.
 #![tactic(auto)]
 
+use cell::Collision;
+use settings::{Face, Settings};
 use std::io;
 
 // A NaN with a payload, so that a copy of it is told from any number.
@@ -51,4 +53,21 @@ pub fn refused(
     gives(rt, operation, case, number)?;
     holds(rt, it, word)?;
     newline(rt)
+}
+
+// Harmless settings of a grid of these sides.
+pub fn sized(nx: usize, ny: usize) -> Settings {
+    Settings {
+        nx,
+        ny,
+        nu: 0.1,
+        fx: 0.0,
+        fy: 0.0,
+        collision: Collision::Bgk,
+        x_min: Face::Periodic,
+        x_max: Face::Periodic,
+        y_min: Face::Periodic,
+        y_max: Face::Periodic,
+        floor: 1e-12,
+    }
 }

@@ -6,7 +6,9 @@ use Prim.Native.Nat.{ℕ, ◌+◌, ◌-◌, ◌*◌, ◌/◌, ◌%◌, ◌≤◌
 use native.Mathlib.Nat.{add_comm, zero-add}
 use native.Mathlib.Omega.{arith}
 use lib.Bits.{bit_or}
-use lib.ListN.{length, get_or}
+use lib.ListN.{length, get_or, take, drop}
+use borrow.Rule.Slice.PartMut.{put_mid}
+use Rattle.std.proofs.lemmas.List.{length-take-le, length-drop, get_or-take, get_or-drop}
 use Rattle.number.specs.Joined.{joined_to}
 use Rattle.number.proofs.Joined.{joined_then, joined_same}
 use Rattle.lattice.specs.declared.Axis.TheVariants.{X, Y}
@@ -14,7 +16,7 @@ use Rattle.grid.specs.Grid.{field_of}
 use Rattle.grid.specs.Writes.{Wrote}
 use Rattle.grid.specs.Finite.{joined_buffer}
 use Rattle.grid.proofs.Radix.{low, high, within, cell_in}
-use Rattle.grid.proofs.Writes.{join, same_values, to_length}
+use Rattle.grid.proofs.Writes.{part_wrote, join, same_values, to_length}
 use Rattle.streaming.specs.Travel.{part, against, far, turn, streamed}
 use Rattle.streaming.specs.Turned.{facing, seen}
 use Rattle.streaming.specs.declared.travel.Shift.{Shift}
@@ -36,21 +38,35 @@ copied_then d e g lo m n v u w first second size (wu, ja) (ww, jb) = (
   ap₂ bit_or (ja ∙ joined_same u v m first) (jb ∙ joined_same w (λ k. v (m + k)) n second) ∙ sym (joined_then v m n) ∙ ap (joined_to v) size,
 )
 
+-- n entries of p, from `from` on, copied to d from lo on, by the code `copy(&p[from..from + n], &mut d[lo..lo + n])`: l is what that part of d then holds
+pub part_copied : (p d l : List ℕ) (from lo m k n : ℕ) {bits : ℕ} → m ≡ n → k ≡ n → from + n ≤ length p → lo + n ≤ length d
+    → l ≡ take k (drop from p)
+    → bits ≡ joined_buffer (take k (drop from p))
+    → Copied d (put_mid lo m d l) lo n (λ j. get_or p (from + j) 0) bits
+part_copied p d l from lo m k n em ek hp hd is join =
+    let part = take n (drop from p) in
+    let size : length part ≡ n = length-take-le n (drop from p) (omega (arith, length-drop from p)) in
+    let at : (j : ℕ) → j < n → get_or part j 0 ≡ get_or p (from + j) 0 =
+    λ j h. get_or-take n (drop from p) j 0 h ∙ get_or-drop from p j 0 in
+    let is' : l ≡ part = rw ek at is in
+    let join' : _ ≡ joined_buffer part = rw ek at join in (
+      rw em (same_values (λ j h. ap (λ (x : List ℕ). get_or x j 0) is' ∙ at j h) (part_wrote d l lo n hd (ap length is' ∙ size))),
+      join' ∙ ap (joined_to (λ j. get_or part j 0)) size ∙ joined_same (λ j. get_or part j 0) (λ j. get_or p (from + j) 0) n at,
+    )
+
 module _ (p d e g : List ℕ) where
   -- the two parts of a turned row
   pub two_parts : (from to n s : ℕ) {a b : ℕ} → s ≤ n
-      → Wrote d e to (n - s) (λ k. get_or p (from + s + k) 0)
-      → a ≡ joined_to (λ k. get_or p (from + s + k) 0) (n - s)
-      → Wrote e g (to + (n - s)) s (λ k. get_or p (from + k) 0)
-      → b ≡ joined_to (λ k. get_or p (from + k) 0) s
+      → Copied d e to (n - s) (λ k. get_or p (from + s + k) 0) a
+      → Copied e g (to + (n - s)) s (λ k. get_or p (from + k) 0) b
       → Copied d g to n (turned_row n s from p) (bit_or a b)
-  two_parts from to n s h w ja u jb =
+  two_parts from to n s h w u =
       copied_then d e g to (n - s) s (turned_row n s from p) _ _
       (λ k l. ap (λ (j : ℕ). get_or p j 0) (omega (arith, before_seam n s k (omega arith))))
       (λ k l. ap (λ (j : ℕ). get_or p (from + j) 0) (sym (after_seam n s k h l)))
       (omega arith)
-      (w, ja)
-      (u, jb)
+      w
+      u
 
   -- one row more of a turned plane
   pub row_more : (t : Shift) (base y from : ℕ) {a b : ℕ} → from ≡ (y + t.sy) % t.ny

@@ -16,9 +16,9 @@ fn row(src: &[u64], from: usize, dst: &mut [u64], to: usize, n: usize, s: usize)
     ensures wrote { Wrote dst.old dst.new to n (turned_row n s from src.now) }
     ensures joined { result ≡ joined_to (turned_row n s from src.now) n }
 {
-    let m = n - s;
-    let first = grid::copy(src, from + s, dst, to, m);
-    let second = grid::copy(src, from, dst, to + m, s);
+    let seam = to + (n - s);
+    let first = grid::copy(&src[from + s..from + n], &mut dst[to..seam]);
+    let second = grid::copy(&src[from..from + s], &mut dst[seam..to + n]);
     first | second
 }
 

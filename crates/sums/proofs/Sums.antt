@@ -1,8 +1,8 @@
 -- Sums of finitely many numbers, once: by parts, term by term, in another order, and with one term changed.
-use Rattle.std.proofs.Common.{◌≡◌, ◌≤◌, get_or-drop, List, length, get_or, take, drop, length-drop, ℕ, zero, suc, ◌+◌, ◌-◌, ◌*◌, ◌/◌, ◌^◌, ◌<◌, cond, eqb, sym, refl, ap, ◌∙◌, ap₂, add-zero, add-suc, add_comm, zero-add, zero-mul, add-one, arith, eq-eqb, ne_eqb}
+use Rattle.std.proofs.Common.{◌≡◌, ◌≤◌, List, length, get_or, take, drop, take_all, length-take-le, length-drop, get_or-take, get_or-drop, ℕ, zero, suc, ◌+◌, ◌-◌, ◌*◌, ◌/◌, ◌^◌, ◌<◌, cond, eqb, sym, refl, ap, ◌∙◌, ap₂, add-zero, add-suc, add_comm, zero-add, zero-mul, add-one, arith, eq-eqb, ne_eqb}
 use native.Mathlib.Nat.{mod-add-mod, add-mod-mod, add-mod_right, mod-add-div', add-mul-mod_self_right}
 use native.Mathlib.Decide.{ℕ_discrete}
-use Rattle.std.specs.List.{fold, slice_range}
+use Rattle.std.specs.List.{fold}
 use Rattle.std.proofs.lemmas.List.Sums.{fold_more}
 use Rattle.sums.specs.Sums.{sum, wrapped, less, moved_by}
 
@@ -22,6 +22,10 @@ pub sum_add : (n : ℕ) (g h : ℕ → ℕ) → sum n (λ k. g k + h k) ≡ sum 
 unfolding sum
 sum_add zero g h = refl
 sum_add (suc n) g h = omega (arith, sum_add n g h)
+
+-- the same terms, and as many
+pub same_sum : (m n : ℕ) (g h : ℕ → ℕ) → m ≡ n → ((k : ℕ) → k < n → g k ≡ h k) → sum m g ≡ sum n h
+same_sum m n g h size e = rw size (sum_cong n g h e)
 
 -- ---- by parts
 
@@ -157,9 +161,14 @@ folded l (suc n) h =
     )
     (mod-add-mod (sum n (λ k. get_or l k 0)) (2 ^ 64) (get_or l n 0))
 
-pub stretch_folded : (f : List ℕ) (from n : ℕ) → from + n ≤ length f → fold (λ s x. wrapped (s + x)) 0 (slice_range f from (from + n)) ≡ wrapped (sum n (λ k. get_or f (k + from) 0))
-stretch_folded f from n h =
-    let p : from + n - from ≡ n = omega arith in
-    ap (λ (k : ℕ). fold (λ s x. wrapped (s + x)) 0 (take k (drop from f))) p
-    ∙ folded (drop from f) n (omega (arith, length-drop from f))
-    ∙ ap wrapped (sum_cong n _ _ (λ k l. get_or-drop from f k 0 ∙ ap (λ (j : ℕ). get_or f j 0) (add_comm from k)))
+pub all_folded : (l : List ℕ) → fold (λ s x. wrapped (s + x)) 0 l ≡ wrapped (sum (length l) (λ k. get_or l k 0))
+all_folded l = ap (fold (λ s x. wrapped (s + x)) 0) (sym (take_all (length l) l (omega arith))) ∙ folded l (length l) (omega arith)
+
+-- the sum of a slice of n entries of a list, from `from` on
+pub sum_part : (l : List ℕ) (from m n : ℕ) → m ≡ n → from + n ≤ length l
+    → sum (length (take m (drop from l))) (λ k. get_or (take m (drop from l)) k 0) ≡ sum n (λ k. get_or l (k + from) 0)
+sum_part l from m n size h =
+    rw size
+    (same_sum _ n _ _
+    (length-take-le n (drop from l) (omega (arith, length-drop from l)))
+    (λ k b. get_or-take n (drop from l) k 0 b ∙ get_or-drop from l k 0 ∙ ap (λ (j : ℕ). get_or l j 0) (add_comm from k)))

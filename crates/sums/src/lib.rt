@@ -1,15 +1,14 @@
 // Sums of 64-bit numbers, wrapping at 64 bits.
 #![tactic(auto)]
 
-ghost use Rattle.std.specs.Prelude.{◌≡◌, ◌+◌, ◌≤◌, length, slice_index};
+ghost use Rattle.std.specs.Prelude.{◌≡◌, length, slice_index};
 ghost use Rattle.sums.specs.Sums.{sum, wrapped, moved_by};
 
-// The sum of the n entries of f from `from` on.
-pub fn stretch(f: &[u64], from: usize, n: usize) -> u64
-    requires { from + n ≤ length f.now }
-    ensures { result ≡ wrapped (sum n (λ k. slice_index f.now (k + from))) }
+// The sum of the entries of a stretch.
+pub fn stretch(entries: &[u64]) -> u64
+    ensures { result ≡ wrapped (sum (length entries.now) (λ k. slice_index entries.now k)) }
 {
-    f[from..from + n]
+    entries
         .iter()
         .fold(0, |sum, entry| sum.wrapping_add(*entry))
 }

@@ -20,9 +20,9 @@ fn fresh(n: usize, f: &[u64]) -> [u64; 10]
 {
     let mut t = [0; 10];
     for i in 0..9 {
-        t[i + 1] = sums::stretch(f, i * n, n);
+        t[i + 1] = sums::stretch(&f[i * n..i * n + n]);
     }
-    t[0] = sums::stretch(&t, 1, 9);
+    t[0] = sums::stretch(&t[1..]);
     t
 }
 

@@ -1,16 +1,8 @@
 // One cell's collision: each kind, without force, with a force in x, in y and in both, in each mode.
 use crate::studies::FLOOR;
 use crate::{made, show, studies};
-use cell::{BgkRates, Collide, Force, MrtRates, TrtRates};
+use cell::{BgkRates, Force, MrtRates, TrtRates};
 use std::io;
-
-fn collided<K: Collide>(rates: K, f: [f64; 9], force: Force) -> [f64; 9] {
-    if force.acts() {
-        cell::cell::<K, true>(rates, f, force, FLOOR)
-    } else {
-        cell::cell::<K, false>(rates, f, force, FLOOR)
-    }
-}
 
 // Case k, from the number x on; answers the number after it.
 pub fn one(rt: &impl Print, k: u64, x: u64) -> io::Result<u64> {
@@ -28,9 +20,9 @@ pub fn one(rt: &impl Print, k: u64, x: u64) -> io::Result<u64> {
         y: studies::wanted(2 <= force, made::number(mode, x4)),
     };
     let after = match k / 36 {
-        0 => collided(BgkRates::new(tau), f, force),
-        1 => collided(TrtRates::new(tau, rate), f, force),
-        _ => collided(MrtRates::new(tau), f, force),
+        0 => cell::collided(BgkRates::new(tau), f, force, FLOOR),
+        1 => cell::collided(TrtRates::new(tau, rate), f, force, FLOOR),
+        _ => cell::collided(MrtRates::new(tau), f, force, FLOOR),
     };
     show::numbers(rt, &after)?;
     Ok(x4)

@@ -31,7 +31,7 @@ fn show_cells(rt: &impl Print, s: Settings, f: &[u64]) -> io::Result<()> {
 
 fn show_planes(rt: &impl Print, s: Settings, f: &[u64]) -> io::Result<()> {
     for i in 0..9 {
-        show::words(rt, readings::plane(s, f, i).unwrap_or(&[]))?;
+        show::words(rt, readings::plane(s, f, i))?;
     }
     Ok(())
 }
