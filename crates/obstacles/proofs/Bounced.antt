@@ -14,9 +14,8 @@ use Rattle.grid.proofs.Fields.{is_buffer}
 use Rattle.settings.specs.declared.Obstacle.{Obstacle}
 use Rattle.settings.specs.Tests.{place_of}
 use Rattle.obstacles.specs.Obstacles.{is_named, bounced, bounced_buffer}
-use Rattle.obstacles.proofs.Lists.{On}
 
-module _ (nx ny : ℕ) (o : Obstacle) (f e : List ℕ) (size : length f ≡ 9 * (nx * ny)) (h : On nx ny o)
+module _ (nx ny : ℕ) (o : Obstacle) (f e : List ℕ) (size : length f ≡ 9 * (nx * ny)) (column : o.x < nx)
     (p : Put f e (nx * ny) (place_of nx o) (λ i. get_or f (place_of nx o + OPP i * (nx * ny)) 0)) where
   entry : (x y i : ℕ) → x < nx → y < ny → i < 9 → (a b : Bool) → eqb o.x x ≡ a → eqb o.y y ≡ b
       → get_or e (x + y * nx + i * (nx * ny)) 0 ≡ bounced (o ∷ []) (field_of nx ny f) x y i
@@ -27,10 +26,10 @@ module _ (nx ny : ℕ) (o : Obstacle) (f e : List ℕ) (size : length f ≡ 9 * 
       rw (ex, ey, ← px, ← py) (p.written i hi)
   entry x y i hx hy hi true false ex ey =
       rw (ex, ey)
-      (p.others (x + y * nx) i (within x y nx ny hx hy) (λ q. eqb-false o.y y ey (sym (high_inj nx x y o.x o.y hx h.column q))))
+      (p.others (x + y * nx) i (within x y nx ny hx hy) (λ q. eqb-false o.y y ey (sym (high_inj nx x y o.x o.y hx column q))))
   entry x y i hx hy hi false b ex ey =
       rw ex
-      (p.others (x + y * nx) i (within x y nx ny hx hy) (λ q. eqb-false o.x x ex (sym (low_inj nx x y o.x o.y hx h.column q))))
+      (p.others (x + y * nx) i (within x y nx ny hx hy) (λ q. eqb-false o.x x ex (sym (low_inj nx x y o.x o.y hx column q))))
 
   pub bounced_put : e ≡ bounced_buffer nx ny (o ∷ []) f
   unfolding bounced_buffer field_of

@@ -2,25 +2,22 @@
 use mathlib.Core.Path.{◌≡◌, refl, sym, ◌∙◌, subst}
 use mathlib.Core.Bool.{Bool, true, false, cond, ◌&&◌, ◌||◌}
 use mathlib.Core.List.{List, [], ◌∷◌}
-use Prim.Native.Nat.{ℕ, suc, ◌+◌, ◌*◌, ◌≤◌, ◌<◌}
+use Prim.Native.Nat.{ℕ, ◌+◌, ◌*◌, ◌≤◌, ◌<◌}
 use native.Mathlib.Omega.{arith}
 use lib.Dec.{T, eqb, ltb}
 use lib.ListN.{length, get_or, drop, drop_of_length-le}
 use lib.Seq.{drop-cons}
 use native.Mathlib.Numerals.{add-one}
-use Rattle.grid.specs.Writes.{Put}
 use borrow.Author.Tests.{eqb-true, ltb-false}
 use Rattle.lattice.specs.Lattice.{OPP}
 use Rattle.lattice.proofs.Tables.{opposite_small}
 use Rattle.grid.specs.Grid.{Field, field_of, buffer_of}
 use Rattle.grid.proofs.Fields.{buffer_length, field_of_buffer, buffer_of_field, same_buffer}
 use Rattle.settings.specs.declared.Obstacle.{Obstacle}
-use Rattle.settings.specs.Tests.{outside, place_bad, place_of, falls}
+use Rattle.settings.specs.Tests.{outside, place_bad, place_of}
 use Rattle.settings.proofs.Laws.{or_left, or_right}
 use Rattle.obstacles.specs.Obstacles.{is_named, bounced, bounced_buffer}
-use Rattle.obstacles.proofs.Ascent.{nowhere, falls_from, ascends_from}
-use Rattle.obstacles.proofs.Lists.{on}
-use Rattle.obstacles.proofs.Bounced.{bounced_put}
+use Rattle.obstacles.proofs.Ascent.{nowhere, falls_from}
 
 abbrev hit : Obstacle → ℕ → ℕ → Bool
 hit o x y = eqb o.x x && eqb o.y y
@@ -96,30 +93,20 @@ module _ (nx ny : ℕ) where
       same_buffer nx ny _ _ (record { here = λ x y i hx hy hi. none_named (field_of nx ny b) x y i })
       ∙ buffer_of_field nx ny b size
 
-  -- ---- the loop, after k obstacles
-
-  pub turned_more : (list : List Obstacle) (b e : List ℕ) (k : ℕ) → outside nx ny list ≡ false → falls nx list ≡ false
-      → length b ≡ 9 * (nx * ny) → k < length list
-      → (let c = place_of nx (get_or list k nowhere) in Put b e (nx * ny) c (λ i. get_or b (c + OPP i * (nx * ny)) 0))
-      → bounced_buffer nx ny (drop (k + 1) list) e ≡ bounced_buffer nx ny (drop k list) b
-  turned_more list b e k ins up size h p =
-      let o = get_or list k nowhere in
-      rw (
-        add-one k,
-        bounced_put nx ny o b e size (on nx ny list ins k h) p,
-        one_more o (drop (suc k) list) b (ascends_from nx list up k h),
-        drop-cons list k nowhere h,
-      )
-
-  pub turned_done : (list : List Obstacle) (b : List ℕ) (k : ℕ) → length b ≡ 9 * (nx * ny) → length list ≤ k
-      → b ≡ bounced_buffer nx ny (drop k list) b
-  turned_done list b k size h = rw (drop_of_length-le list h) (sym (none_turned b size))
-
-  -- ---- the same of the whole list: its cells are turned one after the other, from any buffer and any place that may come next
+  -- ---- the cells are turned one after the other, from any buffer and any place that may come next
 
   abbrev pub one_by_one : List ℕ → List Obstacle → List ℕ
   one_by_one b [] = b
   one_by_one b (o ∷ rest) = one_by_one (bounced_buffer nx ny (o ∷ []) b) rest
+
+  -- after k obstacles
+  pub turned_more : (list : List Obstacle) (b : List ℕ) (k : ℕ) → k < length list
+      → one_by_one (bounced_buffer nx ny (get_or list k nowhere ∷ []) b) (drop (k + 1) list) ≡ one_by_one b (drop k list)
+  turned_more list b k h = rw (add-one k, drop-cons list k nowhere h)
+
+  -- after the last
+  pub turned_done : (list : List Obstacle) (b : List ℕ) (k : ℕ) → length list ≤ k → one_by_one b (drop k list) ≡ b
+  turned_done list b k h = rw (drop_of_length-le list h)
 
   pub turned_all : (m : ℕ) (list : List Obstacle) (b : List ℕ) → length b ≡ 9 * (nx * ny) → outside nx ny list ≡ false
       → falls_from nx m list ≡ false
