@@ -17,7 +17,8 @@ use Rattle.settings.specs.Refusals as Call
 use Rattle.settings.specs.Refusals.{refusal}
 use Rattle.settings.specs.Outcome.{outcome, answer}
 use Rattle.settings.proofs.Numbers.{some_number}
-use Rattle.brothwagon.specs.Exported.{told, plane_told}
+use Rattle.host.specs.Told.{told}
+use Rattle.brothwagon.specs.Exported.{plane_told}
 
 pub zero_pattern : pattern_of c0 ≡ 0
 unfolding to_bits of_bits

@@ -1,24 +1,17 @@
 -- What the exported functions leave with a host: the outcomes of the operations, with every value of an answer as a word.
-use Rattle.std.specs.Prelude.{cond, List, [], ◌∷◌, ℕ, length, replicate, Result, Ok, Err}
+use Rattle.std.specs.Prelude.{cond, List, [], ◌∷◌, ℕ, length}
 use Rattle.number.specs.Number.{pattern_of}
 use Rattle.settings.specs.declared.Settings.{Settings}
 use Rattle.settings.specs.Refusals as Call
 use Rattle.settings.specs.Refusals.{refusal}
-use Rattle.settings.specs.Outcome.{Written, outcome}
+use Rattle.settings.specs.Outcome.{Written}
 use Rattle.lossless.specs.Lossless.{Reply}
-use Rattle.settings.specs.Refused.{number}
-use Rattle.settings.specs.declared.refused.Refusal.{Refusal}
 use Rattle.readings.specs.Readings.{Reading, VelocityReading, plane_start, plane_length}
 use Rattle.runs.specs.Steady.{Values, SteadyRun}
 use Rattle.checkpoint.specs.Checkpoint.{Told, Read}
 use Rattle.tally.specs.Tally.{Tallied}
 
 -- ---- a number, and a small buffer with the answer, which every call writes
-
--- of n words: zeros where it is refused
-abbrev pub told : ℕ → Result (List ℕ) Refusal → Written
-told n (Ok words) = outcome 0 words
-told n (Err why) = outcome (number why) (replicate n 0)
 
 abbrev pub reading_told : Reading → Written
 reading_told r = record { number = r.number; buffer = pattern_of r.value ∷ [] }

@@ -14,7 +14,8 @@ ghost use Rattle.checkpoint.specs.Checkpoint.{told_by, checkpoint_written, check
 ghost use Rattle.tally.specs.Tally.{tallied, entered, entry_written};
 ghost use Rattle.tally.specs.File.{tally_written, tally_read};
 ghost use Rattle.host.specs.Host.{settings_of};
-ghost use Rattle.brothwagon.specs.Exported.{told, reading_told, velocity_told, plane_told, lossless_told, steady_left, steady_told, stored_told, read_left, read_told, tally_told};
+ghost use Rattle.host.specs.Told.{told};
+ghost use Rattle.brothwagon.specs.Exported.{reading_told, velocity_told, plane_told, lossless_told, steady_left, steady_told, stored_told, read_left, read_told, tally_told};
 
 use checkpoint::Stored;
 use lossless::Answer;
@@ -23,22 +24,6 @@ use runs::Steady;
 use settings::{Obstacle, Refusal, Settings, number_of};
 
 // ---- answers as words
-
-// Writes the words of an answer, zeros where the call is refused, and answers its number.
-fn tell<const N: usize>(answer: Result<[u64; N], Refusal>, out: &mut [u64; N]) -> u32
-    ensures { outcome result out.new ≡ told N answer.entry }
-{
-    match answer {
-        Ok(words) => {
-            *out = words;
-            0
-        }
-        Err(why) => {
-            out.fill(0);
-            why.number()
-        }
-    }
-}
 
 #[tactic(auto, using(crate::proofs::Words::zero_pattern))]
 fn number_words(answer: Result<f64, Refusal>) -> Result<[u64; 1], Refusal>
@@ -102,7 +87,7 @@ pub extern "C" fn brothwagon_density(
         ≡ reading_told (density_read (settings_of w.now) f.now x y) }
 {
     let density = readings::density(host::settings_of(w), f, x, y);
-    tell(number_words(density), rho)
+    host::tell(number_words(density), rho)
 }
 
 #[unsafe(no_mangle)]
@@ -117,7 +102,7 @@ pub extern "C" fn brothwagon_velocity(
         ≡ velocity_told (velocity_read (settings_of w.now) f.now x y) }
 {
     let velocity = readings::velocity(host::settings_of(w), f, x, y);
-    tell(velocity_words(velocity), u)
+    host::tell(velocity_words(velocity), u)
 }
 
 #[unsafe(no_mangle)]
@@ -134,7 +119,7 @@ pub extern "C" fn brothwagon_total_mass(w: &[u64; 20], f: &[u64], mass: &mut [u6
         ≡ reading_told (total_mass_read (settings_of w.now) f.now) }
 {
     let total = readings::total_mass(host::settings_of(w), f);
-    tell(number_words(total), mass)
+    host::tell(number_words(total), mass)
 }
 
 #[unsafe(no_mangle)]
@@ -143,7 +128,7 @@ pub extern "C" fn brothwagon_kinetic_energy(w: &[u64; 20], f: &[u64], energy: &m
         ≡ reading_told (kinetic_energy_read (settings_of w.now) f.now) }
 {
     let kinetic = readings::kinetic_energy(host::settings_of(w), f);
-    tell(number_words(kinetic), energy)
+    host::tell(number_words(kinetic), energy)
 }
 
 #[unsafe(no_mangle)]
@@ -156,7 +141,7 @@ pub extern "C" fn brothwagon_plane(
     ensures { outcome result part.new
         ≡ plane_told (settings_of w.now) f.now direction }
 {
-    tell(plane_words(host::settings_of(w), f, direction), part)
+    host::tell(plane_words(host::settings_of(w), f, direction), part)
 }
 
 // ---- streaming, the lossless question and the reverse
@@ -175,7 +160,7 @@ pub extern "C" fn brothwagon_lossless(w: &[u64; 20], answer: &mut [u64; 4]) -> u
         ≡ lossless_told (reply (lossless_of (settings_of w.now))) }
 {
     let lossless = lossless::lossless(host::settings_of(w));
-    tell(lossless_words(lossless), answer)
+    host::tell(lossless_words(lossless), answer)
 }
 
 #[unsafe(no_mangle)]
@@ -273,7 +258,7 @@ pub extern "C" fn brothwagon_write_checkpoint(
 pub extern "C" fn brothwagon_checkpoint_sides(file: &[u8], answer: &mut [u64; 3]) -> u32
     ensures { outcome result answer.new ≡ stored_told (checkpoint_sides file.now) }
 {
-    tell(stored_words(checkpoint::checkpoint_sides(file)), answer)
+    host::tell(stored_words(checkpoint::checkpoint_sides(file)), answer)
 }
 
 #[unsafe(no_mangle)]
@@ -285,7 +270,7 @@ pub extern "C" fn brothwagon_read_checkpoint(
     ensures { read_left result answer.new f.new
         ≡ read_told (checkpoint_read file.now f.old) }
 {
-    tell(stored_words(checkpoint::read_checkpoint(file, f)), answer)
+    host::tell(stored_words(checkpoint::read_checkpoint(file, f)), answer)
 }
 
 // ---- the tally: an answer where it is worked out, and a lent buffer where it is moved or read
@@ -295,7 +280,7 @@ pub extern "C" fn brothwagon_tally(w: &[u64; 20], f: &[u64], t: &mut [u64; 10]) 
     ensures { outcome result t.new
         ≡ tally_told (tallied (settings_of w.now) f.now) }
 {
-    tell(tally::tally(host::settings_of(w), f), t)
+    host::tell(tally::tally(host::settings_of(w), f), t)
 }
 
 #[unsafe(no_mangle)]

@@ -1,30 +1,31 @@
 // Every number of every operation on a file, and their order: zeros are answered, and lent buffers stay as they were.
 use crate::given::{F, changed};
 use crate::{given, lines};
-use settings::{Settings, number_of};
+use checkpoint::Stored;
+use settings::{Refusal, Settings, number_of};
 use show::{CANARY, full_of, kept, sized};
 use std::io;
 
 // ---- reading: a good file of 85 bytes, and one more behind it, with byte k turned to another, and cut to a length
 
+// The sides and the step number as hosts are given them: what a refused call tells is looked at.
+fn told(answer: Result<Stored, Refusal>, words: &mut [u64; 3]) -> u32 {
+    host::tell(answer.map(|a| [a.nx as u64, a.ny as u64, a.step]), words)
+}
+
 fn asked(rt: &impl Print, k: usize, byte: u8, file: &[u8]) -> io::Result<()> {
-    let sides = checkpoint::checkpoint_sides(file);
-    lines::changed(
-        rt,
-        "checkpoint_sides",
-        k,
-        byte,
-        file.len(),
-        number_of(sides),
-    )?;
-    show::holds(rt, sides.is_err(), ", zeros")?;
+    let mut words = [CANARY; 3];
+    let number = told(checkpoint::checkpoint_sides(file), &mut words);
+    lines::changed(rt, "checkpoint_sides", k, byte, file.len(), number)?;
+    show::holds(rt, full_of(&words, &0), ", zeros")?;
     show::newline(rt)
 }
 
 fn read(rt: &impl Print, k: usize, byte: u8, file: &[u8], f: &mut [u64]) -> io::Result<()> {
-    let read = checkpoint::read_checkpoint(file, f);
-    lines::changed(rt, "read_checkpoint", k, byte, file.len(), number_of(read))?;
-    show::holds(rt, read.is_err(), ", zeros")?;
+    let mut words = [CANARY; 3];
+    let number = told(checkpoint::read_checkpoint(file, f), &mut words);
+    lines::changed(rt, "read_checkpoint", k, byte, file.len(), number)?;
+    show::holds(rt, full_of(&words, &0), ", zeros")?;
     show::value(rt, ", ", f.len() as u64)?;
     show::holds(rt, kept(f), " left")?;
     show::newline(rt)

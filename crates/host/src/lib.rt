@@ -1,11 +1,13 @@
-// The settings of a study as a host in another language lends them: twenty words of 64 bits.
+// What crosses to a host in another language, as words of 64 bits: the settings of a study, which are twenty, and a small answer.
 #![tactic(auto)]
 
 ghost use Rattle.std.specs.Prelude.{◌≡◌, ◌<◌};
+ghost use Rattle.settings.specs.Outcome.{outcome};
 ghost use Rattle.host.specs.Host.{face_of_kind, collision_of_kind, word_at, number_at, face_at, settings_of};
+ghost use Rattle.host.specs.Told.{told};
 
 use cell::Collision;
-use settings::{Face, Settings};
+use settings::{Face, Refusal, Settings};
 
 // ---- the settings, from the words of the C struct
 
@@ -73,5 +75,23 @@ pub fn settings_of(w: &[u64; 20]) -> Settings
         y_min,
         y_max,
         floor: number::value(w[19]),
+    }
+}
+
+// ---- an answer
+
+// Writes the words of an answer, zeros where the call is refused, and answers its number.
+pub fn tell<const N: usize>(answer: Result<[u64; N], Refusal>, out: &mut [u64; N]) -> u32
+    ensures { outcome result out.new ≡ told N answer.entry }
+{
+    match answer {
+        Ok(words) => {
+            *out = words;
+            0
+        }
+        Err(why) => {
+            out.fill(0);
+            why.number()
+        }
     }
 }

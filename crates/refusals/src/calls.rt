@@ -1,24 +1,24 @@
 // Each operation, called on lent buffers full of canaries. What is lent as `&` cannot be written; the rest is looked at.
 use runs::Steady;
 use settings::{Refusal, Settings, number_of};
-use show::{CANARY, kept};
+use show::{CANARY, full_of, kept};
 use std::io;
 
-// Of a refused call that answers a value: it has none, for which hosts are given zeros.
-fn answered<T: Copy>(
+// An answer of words, as hosts are given it: what a refused call tells is looked at.
+fn answered<const N: usize>(
     rt: &impl Print,
     operation: &str,
     case: &str,
-    answer: Result<T, Refusal>,
+    answer: Result<[u64; N], Refusal>,
 ) -> io::Result<()> {
-    show::refused(
-        rt,
-        operation,
-        case,
-        number_of(answer),
-        answer.is_err(),
-        ", zero",
-    )
+    let mut words = [CANARY; N];
+    let number = host::tell(answer, &mut words);
+    show::refused(rt, operation, case, number, full_of(&words, &0), ", zero")
+}
+
+// The one word of a number.
+fn word(answer: Result<f64, Refusal>) -> Result<[u64; 1], Refusal> {
+    Ok([number::pattern(answer?)])
 }
 
 pub fn initialize(
@@ -40,7 +40,7 @@ pub fn density(
     x: usize,
     y: usize,
 ) -> io::Result<()> {
-    answered(rt, "density", case, readings::density(s, f, x, y))
+    answered(rt, "density", case, word(readings::density(s, f, x, y)))
 }
 
 pub fn velocity(
@@ -51,7 +51,11 @@ pub fn velocity(
     x: usize,
     y: usize,
 ) -> io::Result<()> {
-    answered(rt, "velocity", case, readings::velocity(s, f, x, y))
+    let words = readings::velocity(s, f, x, y).map(|u| [
+        number::pattern(u.ux),
+        number::pattern(u.uy),
+    ]);
+    answered(rt, "velocity", case, words)
 }
 
 pub fn velocity_field(
@@ -66,11 +70,16 @@ pub fn velocity_field(
 }
 
 pub fn total_mass(rt: &impl Print, case: &str, s: Settings, f: &[u64]) -> io::Result<()> {
-    answered(rt, "total_mass", case, readings::total_mass(s, f))
+    answered(rt, "total_mass", case, word(readings::total_mass(s, f)))
 }
 
 pub fn kinetic_energy(rt: &impl Print, case: &str, s: Settings, f: &[u64]) -> io::Result<()> {
-    answered(rt, "kinetic_energy", case, readings::kinetic_energy(s, f))
+    answered(
+        rt,
+        "kinetic_energy",
+        case,
+        word(readings::kinetic_energy(s, f)),
+    )
 }
 
 pub fn plane(rt: &impl Print, case: &str, s: Settings, f: &[u64], i: usize) -> io::Result<()> {
