@@ -1,6 +1,6 @@
 -- A cell from its parts, once for the kinds: with a force and without.
-use mathlib.Core.Path.{◌≡◌}
-use mathlib.Core.Bool.{true, false}
+use mathlib.Core.Path.{◌≡◌, ap, ◌∙◌}
+use mathlib.Core.Bool.{Bool, true, false}
 use mathlib.Core.List.{List}
 use lib.Ieee.{Float}
 use Rattle.cell.specs.declared.Moments.{Moments}
@@ -15,3 +15,10 @@ module _ (collide : List Float → List Float → List Float → List Float) (f 
   pub cell_forced : {src : List Float} → forced_by fx fy ≡ true → src ≡ guo_sources m fx fy → r ≡ collide f feq src → r ≡ cell_by collide f fx fy floor
   unfolding cell_by sources_of
   cell_forced e es er = rw (e, ← em, ← ef, ← es) er
+
+  -- as the cell's own flag says
+  pub cell_either : (acts : Bool) {src : List Float} → forced_by fx fy ≡ acts → src ≡ sources_of m fx fy → r ≡ collide f feq src
+      → r ≡ cell_by collide f fx fy floor
+  unfolding sources_of
+  cell_either true e es er = cell_forced e (es ∙ rw e) er
+  cell_either false e es er = cell_unforced e (er ∙ ap (λ (src : List Float). collide f feq src) (es ∙ rw e))

@@ -16,7 +16,7 @@ pub trait Collide: Copy {
 }
 
 #[inline(always)]
-#[tactic(auto, unfolding(crate::specs::Cell::cell_by))]
+#[tactic(auto, using(crate::proofs::Cells::cell_either))]
 pub fn cell<K: Collide, const FORCED: bool>(
     rates: K,
     f: [f64; 9],
