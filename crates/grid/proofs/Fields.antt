@@ -36,6 +36,9 @@ is_listed n l g size entries =
 pub same_refl : {nx ny : ℕ} {p : Field} → Same nx ny p p
 same_refl = record { here = λ x y i hx hy hi. refl }
 
+pub same_sym : {nx ny : ℕ} {p q : Field} → Same nx ny p q → Same nx ny q p
+same_sym s = record { here = λ x y i hx hy hi. sym (s.here x y i hx hy hi) }
+
 pub same_trans : {nx ny : ℕ} {p q r : Field} → Same nx ny p q → Same nx ny q r → Same nx ny p r
 same_trans s t = record { here = λ x y i hx hy hi. s.here x y i hx hy hi ∙ t.here x y i hx hy hi }
 
