@@ -8,4 +8,4 @@ use Rattle.line.proofs.reply.Reads as replies
 
 module _ (κs : Lfts 1) (a : ArgsD reply.signature κs) where
   pub reply_one : (r q : ResD reply.signature κs) (t u : AtExit reply.ended κs) → replies.Post κs a r t → replies.Post κs a q u → r ≡ q
-  reply_one r q t u p p' = λ i. record { items = (p ∙ sym p') i }
+  reply_one r q t u p p' = p.0 ∙ sym p'.0

@@ -14,7 +14,11 @@ use Rattle.std.proofs.lemmas.Option.{cond_some}
 use Rattle.std.proofs.lemmas.List.{length-take, get_or-take}
 use Rattle.std.proofs.lemmas.Slice.{between_to_end}
 use borrow.Author.Tests.{eq-eqb, ltb-true, ltb-false}
+use Rattle.std.specs.Prelude.{replicate}
+use Rattle.std.proofs.Math.Seq.{take-append_seam}
+use Rattle.line.specs.declared.Text.{Text}
 use Rattle.line.specs.Line.{before, after}
+use Rattle.line.specs.Text.{room, text_of, items}
 
 module _ (mark : ℕ) where
   -- ---- where the first mark stands
@@ -100,3 +104,9 @@ module _ (mark : ℕ) where
       go : (t : Bool) → eqb b mark ≡ t → before mark (s ++ mark ∷ rest) ≡ before mark s → before mark (b ∷ s ++ mark ∷ rest) ≡ before mark (b ∷ s)
       go true e more = rw e
       go false e more = rw e (ap (λ (l : List ℕ). b ∷ l) more)
+
+-- ---- an answer in its room
+
+-- what is written of it is what was put there
+pub items_of : (t : Text) (s : List ℕ) → t ≡ text_of s → items t ≡ s
+items_of t s e = ap (λ (t : Text). items t) e ∙ take-append_seam s (drop (length s) (replicate room 0))

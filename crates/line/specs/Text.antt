@@ -1,6 +1,7 @@
--- A number in decimal, as a list of bytes, and the room for an answer.
-use Rattle.std.specs.Prelude.{cond, List, [], ◌∷◌, ◌++◌, ℕ, zero, suc, ◌+◌, ◌/◌, ◌%◌, ltb}
+-- A number in decimal, as a list of bytes, and an answer in the room for it.
+use Rattle.std.specs.Prelude.{cond, List, [], ◌∷◌, ◌++◌, ℕ, zero, suc, ◌+◌, ◌/◌, ◌%◌, ltb, length, take, drop, replicate}
 use Prim.Native.Char.{code}
+use Rattle.line.specs.declared.Text.{Text}
 
 -- the byte of a number below 10
 abbrev pub digit : ℕ → ℕ
@@ -18,3 +19,11 @@ decimal n = decimal_in (suc n) n
 -- room for any answer
 abbrev pub room : ℕ
 room = 32
+
+-- the text at the start of zeros
+abbrev pub text_of : List ℕ → Text
+text_of text = record { bytes = text ++ drop (length text) (replicate room 0); count = length text }
+
+-- what of it is written
+abbrev pub items : Text → List ℕ
+items t = take t.count t.bytes

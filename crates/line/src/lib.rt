@@ -7,6 +7,7 @@ ghost use Rattle.lossless.specs.Lossless.{answer_of};
 ghost use Rattle.line.specs.Line as Line;
 ghost use Rattle.line.specs.Line.{before, after, is_letter, are_letters, is_side};
 ghost use Rattle.line.specs.Line.{face_of_letter, faces_of, decimal_of, spaced, worded, answer_to, reply_to};
+ghost use Rattle.line.specs.Text.{text_of, items};
 ghost use Rattle.arrayvec.specs.ArrayVec.{array_vec_len};
 
 use arrayvec::ArrayVec;
@@ -22,8 +23,35 @@ const MOST_DIGITS: usize = 5;
 // Room for any answer.
 const ROOM: usize = 32;
 
-// What is written for a line.
-pub type Text = ArrayVec<u8, ROOM>;
+// What is written: the first `count` bytes. The others are 0.
+#[derive(Clone, Copy, Debug, PartialEq, Eq)]
+pub struct Text {
+    pub bytes: [u8; ROOM],
+    pub count: usize,
+}
+
+// The same while it is put together.
+type Draft = ArrayVec<u8, ROOM>;
+
+impl Text {
+    fn of(draft: &Draft) -> Text
+        ensures { result ≡ text_of draft.now.items }
+    {
+        let mut bytes = [0; ROOM];
+        bytes[..draft.len()].copy_from_slice(draft.as_slice());
+        Text {
+            bytes,
+            count: draft.len(),
+        }
+    }
+
+    // The bytes that are written.
+    pub fn as_slice(&self) -> &[u8]
+        ensures { result.now ≡ items self.now }
+    {
+        &self.bytes[..self.count.min(ROOM)]
+    }
+}
 
 // ---- what a line asks, if it is readable
 
@@ -113,7 +141,7 @@ fn asked(line: &[u8]) -> Option<Settings>
 
 // ---- what is written for it
 
-fn put(bytes: &[u8], text: &mut Text)
+fn put(bytes: &[u8], text: &mut Draft)
     requires { array_vec_len text.old + length bytes.now ≤ ROOM }
     ensures { text.new.items ≡ text.old.items ++ bytes.now }
 {
@@ -121,7 +149,7 @@ fn put(bytes: &[u8], text: &mut Text)
 }
 
 // Puts a space and n in decimal.
-fn put_number(n: usize, text: &mut Text)
+fn put_number(n: usize, text: &mut Draft)
     requires { array_vec_len text.old + length (spaced n) ≤ ROOM }
     ensures { text.new.items ≡ text.old.items ++ spaced n }
 {
@@ -132,11 +160,11 @@ fn put_number(n: usize, text: &mut Text)
 }
 
 #[tactic(auto, unfolding(crate::specs::Line::worded))]
-fn refused(number: u32) -> Text
+fn refused(number: u32) -> Draft
     requires { length (worded (Refused number)) ≤ ROOM }
     ensures { result.items ≡ worded (Refused number) }
 {
-    let mut text = Text::new();
+    let mut text = Draft::new();
     put(b"refused", &mut text);
     put_number(number as usize, &mut text);
     put(b"\n", &mut text);
@@ -144,11 +172,11 @@ fn refused(number: u32) -> Text
 }
 
 #[tactic(auto, unfolding(crate::specs::Line::worded))]
-fn lossy(x: usize, y: usize, i: usize) -> Text
+fn lossy(x: usize, y: usize, i: usize) -> Draft
     requires { length (worded (Lossy x y i)) ≤ ROOM }
     ensures { result.items ≡ worded (Lossy x y i) }
 {
-    let mut text = Text::new();
+    let mut text = Draft::new();
     put(b"lossy", &mut text);
     put_number(x, &mut text);
     put_number(y, &mut text);
@@ -157,17 +185,17 @@ fn lossy(x: usize, y: usize, i: usize) -> Text
     text
 }
 
-fn whole(words: &[u8]) -> Text
+fn whole(words: &[u8]) -> Draft
     requires { length words.now ≤ ROOM }
     ensures { result.items ≡ words.now }
 {
-    let mut text = Text::new();
+    let mut text = Draft::new();
     put(words, &mut text);
     text
 }
 
 #[tactic(auto, unfolding(crate::specs::Line::worded))]
-fn worded(answer: Result<Answer, Refusal>) -> Text
+fn worded(answer: Result<Answer, Refusal>) -> Draft
     requires { length (worded (answer_of answer)) ≤ ROOM }
     ensures { result.items ≡ worded (answer_of answer) }
 {
@@ -179,7 +207,7 @@ fn worded(answer: Result<Answer, Refusal>) -> Text
 }
 
 // What is written for a line.
-fn answer_to(line: &[u8]) -> Text
+fn answer_to(line: &[u8]) -> Draft
     ensures { result.items ≡ answer_to line.now }
 {
     match asked(line) {
@@ -188,12 +216,21 @@ fn answer_to(line: &[u8]) -> Text
     }
 }
 
-// What is written for the bytes that were read: their line ends at the first newline, or with them.
-pub fn reply(read: &[u8]) -> Text
+// The same for the bytes that were read: their line ends at the first newline, or with them.
+fn answered(read: &[u8]) -> Draft
     ensures { result.items ≡ reply_to read.now }
 {
     match split_once(read, b'\n') {
         Some((line, _)) => answer_to(line),
         None => answer_to(read),
     }
+}
+
+// What is written for the bytes that were read.
+#[tactic(auto, using(crate::proofs::Words::items_of))]
+pub fn reply(read: &[u8]) -> Text
+    ensures text { result ≡ text_of (reply_to read.now) }
+    ensures items { items result ≡ reply_to read.now }
+{
+    Text::of(&answered(read))
 }
