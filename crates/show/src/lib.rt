@@ -4,6 +4,7 @@
 
 use cell::Collision;
 use settings::{Face, Settings};
+use std::convert::AsSlice;
 use std::io;
 
 // A NaN with a payload, so that a copy of it is told from any number.
@@ -18,12 +19,22 @@ pub fn kept(a: &[u64]) -> bool {
     full_of(a, &CANARY)
 }
 
-pub fn gives(rt: &impl Print, operation: &str, case: &str, number: u32) -> io::Result<()> {
-    print!(rt; "{operation}: {case} gives {number}")
+// A word is text or bytes.
+pub fn gives<O: AsSlice<u8> + Drop, C: AsSlice<u8> + Drop>(
+    rt: &impl Print,
+    operation: O,
+    case: C,
+    number: u32,
+) -> io::Result<()> {
+    rt.write_all(operation.as_slice())?;
+    rt.write_all(b": ")?;
+    rt.write_all(case.as_slice())?;
+    print!(rt; " gives {number}")
 }
 
-pub fn value(rt: &impl Print, name: &str, v: u64) -> io::Result<()> {
-    print!(rt; "{name}{v}")
+pub fn value<N: AsSlice<u8> + Drop>(rt: &impl Print, name: N, v: u64) -> io::Result<()> {
+    rt.write_all(name.as_slice())?;
+    print!(rt; "{v}")
 }
 
 pub fn newline(rt: &impl Print) -> io::Result<()> {
@@ -31,24 +42,32 @@ pub fn newline(rt: &impl Print) -> io::Result<()> {
 }
 
 // The word stands for what must hold.
-pub fn holds(rt: &impl Print, it: bool, word: &str) -> io::Result<()> {
-    let said = if it { word } else { ", WRONG" };
-    print!(rt; "{said}")
+pub fn holds<W: AsSlice<u8> + Drop>(rt: &impl Print, it: bool, word: W) -> io::Result<()> {
+    if it {
+        rt.write_all(word.as_slice())
+    } else {
+        rt.write_all(b", WRONG")
+    }
 }
 
-pub fn number(rt: &impl Print, operation: &str, case: &str, number: u32) -> io::Result<()> {
+pub fn number<O: AsSlice<u8> + Drop, C: AsSlice<u8> + Drop>(
+    rt: &impl Print,
+    operation: O,
+    case: C,
+    number: u32,
+) -> io::Result<()> {
     gives(rt, operation, case, number)?;
     newline(rt)
 }
 
 // What must hold of a refused call, beside its number.
-pub fn refused(
+pub fn refused<O: AsSlice<u8> + Drop, C: AsSlice<u8> + Drop, W: AsSlice<u8> + Drop>(
     rt: &impl Print,
-    operation: &str,
-    case: &str,
+    operation: O,
+    case: C,
     number: u32,
     it: bool,
-    word: &str,
+    word: W,
 ) -> io::Result<()> {
     gives(rt, operation, case, number)?;
     holds(rt, it, word)?;
