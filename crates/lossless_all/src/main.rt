@@ -109,6 +109,7 @@ fn one(s: Settings, post: &mut [u64], f: &mut [u64], seen: &mut [bool]) -> bool 
 
 // How many of the 81 settings are wrong on a grid.
 fn wrong_on(nx: usize, ny: usize, post: &mut [u64], f: &mut [u64], seen: &mut [bool]) -> u64 {
+    f.fill(0);
     let mut wrong: u64 = 0;
     for q in 0..81 {
         if !one(settings_of(nx, ny, q), post, f, seen) {

@@ -56,7 +56,8 @@ pub fn collide(s: Settings, finite: bool, f: &[u64], post: &mut [u64])
     ensures { post.new ≡ collided_buffer s f.now }
 {
     let tau = s.tau();
-    match s.collision {
+    let kind = s.collision;
+    match kind {
         Collision::Bgk => collide_by(BgkRates::new(tau), s, finite, f, post),
         Collision::Mrt => collide_by(MrtRates::new(tau), s, finite, f, post),
         Collision::Trt(rate) => collide_by(TrtRates::new(tau, rate), s, finite, f, post),

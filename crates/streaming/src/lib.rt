@@ -42,7 +42,8 @@ impl Edge {
         ensures { result ≡ taken_at self.axis self.side self.kind self.back self.line.cells post.now f.now c }
     {
         let n = self.line.cells;
-        match self.kind {
+        let kind = self.kind;
+        match kind {
             Face::Periodic => entries::entries_at(f, n, c, self.into),
             Face::NoSlip => entries::entries_at(post, n, c, self.from),
             Face::MovingWall(u, v) => self.bounce_back(u, v, c, post),
