@@ -47,12 +47,13 @@ pub fn put_number(number: u64, bytes: &mut [u8])
     bytes.copy_from_slice(&number.to_be_bytes()[unused..]);
 }
 
-// Writes every number of f in eight bytes.
+// Writes every number of f in eight bytes. From the last on: upwards the compiler turns two numbers at a time on x86-64, which has no
+// instruction for it.
 pub fn write_words(f: &[u64], bytes: &mut [u8])
     requires { length bytes.old ≡ 8 * length f.now }
     ensures { bytes.new ≡ bigs 8 f.now }
 {
-    for (k, entry) in f.iter().enumerate() {
-        put_number(*entry, &mut bytes[8 * k..8 * k + 8]);
+    for k in (0..f.len()).rev() {
+        put_number(f[k], &mut bytes[8 * k..8 * k + 8]);
     }
 }
