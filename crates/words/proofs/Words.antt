@@ -13,9 +13,8 @@ use Rattle.std.specs.List.{slice_range}
 use Rattle.std.specs.Int.{bytes_high_first, to_be_bytes}
 use Rattle.std.specs.Slice.{IsGetRangeResult}
 use Rattle.std.specs.Option.{MatchOption}
-use Rattle.std.proofs.lemmas.Grind.{take-set_at}
-use Rattle.std.proofs.lemmas.List.{length-take-le, drop-drop}
-use Rattle.std.proofs.Math.Seq.{drop-append_seam, drop-cons}
+use Rattle.std.proofs.lemmas.Grind.{take-set_at, take_at_read}
+use Rattle.std.proofs.lemmas.Slice.{take-put_mid}
 use Rattle.std.proofs.lemmas.List.Edits.{get_or-between, length-between}
 use Rattle.words.specs.Words.{byte_of, big, bigs, number_at, part_at, numbers_at}
 
@@ -250,20 +249,17 @@ read_more f b k v h long before is =
     ∙ sym (numbers_more 8 k b 0)
     ∙ ap (λ (n : ℕ). numbers_at 8 n b 0) (sym (add-one k))
 
--- and of those that are written, from the last on, by the code `put_number(f[k], &mut b[8 * k..8 * k + 8])`
-pub write_more : (f b g : List ℕ) (k v : ℕ) → k < length f → 8 * k + 8 ≤ length b → v ≡ 8
-    → drop (8 * (k + 1)) b ≡ bigs 8 (drop (k + 1) f)
-    → g ≡ big (length (slice_range b (8 * k) (8 * k + 8))) (get_or f k 0) → drop (8 * k) (put_mid (8 * k) v b g) ≡ bigs 8 (drop k f)
-unfolding bigs
-write_more f b g k v h long width after is =
+-- and of those that are written, by the code `put_number(f[k], &mut b[8 * k..8 * k + 8])`
+pub write_more : (f b g : List ℕ) (k v : ℕ) → k < length f → 8 * k + 8 ≤ length b → take (8 * k) b ≡ bigs 8 (take k f)
+    → g ≡ big (length (slice_range b (8 * k) (8 * k + 8))) (get_or f k 0) → take (8 * (k + 1)) (put_mid (8 * k) v b g) ≡ bigs 8 (take (k + 1) f)
+write_more f b g k v h long before is =
     let eight : length (slice_range b (8 * k) (8 * k + 8)) ≡ 8 = length-between b (8 * k) (8 * k + 8) long ∙ omega arith in
     let written : g ≡ big 8 (get_or f k 0) = is ∙ ap (λ (j : ℕ). big j (get_or f k 0)) eight in
-    let low : length (take (8 * k) b) ≡ 8 * k = length-take-le (8 * k) b (omega arith) in
-    let next : 8 * k + v ≡ 8 * (k + 1) = omega (arith, width) in
-    ap (λ (i : ℕ). drop i (put_mid (8 * k) v b g)) (sym low)
-    ∙ drop-append_seam (take (8 * k) b) (g ++ drop v (drop (8 * k) b))
-    ∙ ap₂ (λ (l m : List ℕ). l ++ m) written (drop-drop v (8 * k) b ∙ ap (λ (i : ℕ). drop i b) next ∙ after ∙ ap (λ (i : ℕ). bigs 8 (drop i f)) (add-one k))
-    ∙ sym (ap (bigs 8) (drop-cons f k 0 h))
+    let size : length g ≡ 8 = ap length written ∙ big_length 8 (get_or f k 0) in
+    take-put_mid (8 * k) v b g (8 * (k + 1)) (omega arith) (omega arith)
+    ∙ ap₂ (λ (l m : List ℕ). l ++ m) before written
+    ∙ sym (bigs_more 8 (take k f) (get_or f k 0))
+    ∙ ap (bigs 8) (sym ((take_at_read f k 0 h).1))
 
 -- k bytes read: the number that they spell, which leaves room for one more
 pub record Spelled (b : List ℕ) (at v k : ℕ) : Type 0 where

@@ -1,7 +1,7 @@
 // Numbers as bytes, the highest first: one number of up to eight bytes, and many of eight.
 #![tactic(auto)]
 
-ghost use Rattle.std.specs.Prelude.{◌≡◌, ◌+◌, ◌*◌, ◌^◌, ◌≤◌, ◌<◌, length};
+ghost use Rattle.std.specs.Prelude.{◌≡◌, ◌+◌, ◌*◌, ◌^◌, ◌≤◌, ◌<◌, length, take};
 ghost use Rattle.words.specs.Words.{big, bigs, number_at, part_at, numbers_at};
 
 // ---- reading
@@ -47,13 +47,26 @@ pub fn put_number(number: u64, bytes: &mut [u8])
     bytes.copy_from_slice(&number.to_be_bytes()[unused..]);
 }
 
-// Writes every number of f in eight bytes. From the last on: upwards the compiler turns two numbers at a time on x86-64, which has no
-// instruction for it.
+// Writes number k of f in its eight bytes.
+fn put_word(f: &[u64], k: usize, bytes: &mut [u8])
+    requires { (k < length f.now) × (8 * k + 8 ≤ length bytes.old) × (take (8 * k) bytes.old ≡ bigs 8 (take k f.now)) }
+    ensures { take (8 * (k + 1)) bytes.new ≡ bigs 8 (take (k + 1) f.now) }
+{
+    put_number(f[k], &mut bytes[8 * k..8 * k + 8]);
+}
+
+// Writes every number of f in eight bytes, two in a turn: one in a turn, the compiler turns the bytes of two at a time, which is slow
+// where x86-64 has no instruction for it.
 pub fn write_words(f: &[u64], bytes: &mut [u8])
     requires { length bytes.old ≡ 8 * length f.now }
     ensures { bytes.new ≡ bigs 8 f.now }
 {
-    for k in (0..f.len()).rev() {
-        put_number(f[k], &mut bytes[8 * k..8 * k + 8]);
+    let pairs = f.len() / 2;
+    for k in 0..pairs {
+        put_word(f, 2 * k, bytes);
+        put_word(f, 2 * k + 1, bytes);
+    }
+    if 2 * pairs < f.len() {
+        put_word(f, 2 * pairs, bytes);
     }
 }
