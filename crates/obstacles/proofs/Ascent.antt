@@ -36,15 +36,3 @@ module _ (nx : ℕ) where
   unfolding falls
   falls_from_lem [] = refl
   falls_from_lem (o ∷ rest) = rw (le-ltb (place_of nx o) 0 (omega arith)) (falls_after o rest)
-
-  falls_rest : (o : Obstacle) (rest : List Obstacle) → falls nx (o ∷ rest) ≡ false → falls nx rest ≡ false
-  unfolding falls
-  falls_rest o [] e = refl
-  falls_rest o (p ∷ rest) e = or_right (leb (place_of nx p) (place_of nx o)) (falls nx (p ∷ rest)) e
-
-  -- of a list that ascends, what comes after the k-th stands above it
-  pub ascends_from : (list : List Obstacle) → falls nx list ≡ false → (k : ℕ) → k < length list
-      → falls_from (place_of nx (get_or list k nowhere) + 1) (drop (suc k) list) ≡ false
-  ascends_from [] e k h = absurd (omega arith)
-  ascends_from (o ∷ rest) e zero h = sym (falls_after o rest) ∙ e
-  ascends_from (o ∷ rest) e (suc k) h = ascends_from rest (falls_rest o rest e) k (omega arith)
